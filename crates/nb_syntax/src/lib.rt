@@ -1,0 +1,6 @@
+//! The trees of cells: their copies, their printed text and their free names.
+#![tactic(auto)]
+
+mod tree;
+
+pub use tree::{Body, Cell, Expr, Operand, Sign};
