@@ -1,0 +1,11 @@
+pub mod Lists
+pub mod Reach
+pub mod Sheet
+pub mod Names
+pub mod Reading
+pub mod Rules
+pub mod Log
+pub mod Serial
+pub mod Edited
+pub mod Print
+pub mod History

@@ -1,0 +1,30 @@
+-- What is written of a log: its entries, the table of what stands, and the number of entries.
+use Rattle.std.specs.Prelude.{ℕ, Bool, List, [], ◌∷◌, ◌++◌, map, length, Option}
+use Rattle.std.specs.List.{filter}
+use Rattle.nb_value.specs.declared.value.Value.{Value}
+use Rattle.nb_value.specs.declared.pairs.Field.{Field}
+use Rattle.nb_history.specs.Lists.{Name, nth, numbers, option_then}
+use Rattle.nb_history.specs.Reading.{Reading, shown}
+use Rattle.nb_history.specs.Rules.{wanted}
+use Rattle.nb_history.specs.Log.{reading}
+use Rattle.nb_log.specs.Printing.{line_text, lines_text, entries_text, table_value, done_value}
+use Rattle.nb_log.specs.declared.row.VarRow.{VarRow}
+use Rattle.nb_log.specs.declared.entry.Entry.{Entry}
+
+abbrev pub row_name : Reading → ℕ → Option Name
+row_name r v = option_then (nth r.sheet.rows v) (λ (row : VarRow). row.name)
+
+-- the table line of v
+abbrev pub table_line : Reading → ℕ → Value
+table_line r v = table_value v (row_name r v) (shown r v)
+
+-- the wanted variables, by number
+abbrev pub wanted_vars : Reading → List ℕ
+wanted_vars r = filter (wanted r) (numbers r.sheet.rows)
+
+abbrev pub table_text : Reading → List ℕ
+table_text r = lines_text (map (table_line r) (wanted_vars r))
+
+-- one line for each entry, the table line of each wanted variable, and the number of entries
+unfoldable pub printing : List (Field Value) → List Entry → List ℕ
+printing builtins log = entries_text log ++ table_text (reading builtins log) ++ line_text (done_value (length log))

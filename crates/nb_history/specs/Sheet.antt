@@ -1,0 +1,100 @@
+-- The sheet: modules, variables and what an edit makes of them.
+use Rattle.std.specs.Prelude.{ℕ, zero, suc, ◌+◌, ◌-◌, ◌<◌, Bool, true, false, cond, ◌&&◌, ◌||◌, not, ◌==◌, nat_lt, nat_le, List, [], ◌∷◌, ◌++◌, map, length, Option, Some, None, is_some}
+use Rattle.nb_history.specs.Lists.{nth, put, numbers, numbers_where, Name, is_name, or_else, from_option}
+use Rattle.nb_value.specs.declared.pairs.Field.{Field}
+use Rattle.nb_value.specs.declared.value.Value.{Value}
+use Rattle.nb_syntax.specs.declared.tree.Cell.{Cell}
+use Rattle.nb_log.specs.declared.row.BodyOf.{BodyOf}
+use Rattle.nb_log.specs.declared.row.BodyOf.TheVariants.{Cell as CellBody, Import as ImportBody}
+use Rattle.nb_log.specs.declared.row.VarRow.{VarRow}
+use Rattle.nb_log.specs.declared.edit.Edit.{Edit}
+use Rattle.nb_log.specs.declared.edit.Edit.TheVariants.{AddModule, AddVariable, AddCell, Define, Import, Delete, Redefine}
+use Rattle.nb_log.specs.declared.entry.Refusal.{Refusal}
+use Rattle.nb_log.specs.declared.entry.Refusal.TheVariants.{NoModule, NoVariable, TooManyModules, TooManyVariables, NotNamed, NamedTwice}
+
+-- the builtins, the number of modules, and the variables in order of number
+pub record Sheet : Type 0 where
+  pub builtins : List (Field Value)
+  pub modules : ℕ
+  pub rows : List VarRow
+
+-- module 0, and no variable
+abbrev pub empty_sheet : List (Field Value) → Sheet
+empty_sheet builtins = record { builtins = builtins; modules = 1; rows = [] }
+
+-- the variables of module m that have the name n
+abbrev pub named : Sheet → ℕ → Name → List ℕ
+named s m n = numbers_where (λ (row : VarRow). (row.module == m) && is_name row.name n) s.rows
+
+-- ---- the refusals
+
+-- a reason, where the test holds
+abbrev pub where_true : Bool → Refusal → Option Refusal
+where_true true reason = Some reason
+where_true false reason = None
+
+abbrev pub no_module : Sheet → ℕ → Option Refusal
+no_module s m = where_true (nat_le s.modules m) NoModule
+
+abbrev pub no_variable : Sheet → ℕ → Option Refusal
+no_variable s v = where_true (not (is_some (nth s.rows v))) NoVariable
+
+abbrev pub full : Sheet → Option Refusal
+full s = where_true (nat_le 1024 (length s.rows)) TooManyVariables
+
+abbrev pub not_once : List ℕ → Option Refusal
+not_once [] = Some NotNamed
+not_once (v ∷ []) = None
+not_once (v ∷ w ∷ more) = Some NamedTwice
+
+abbrev pub no_one_named : Sheet → ℕ → Option Name → Option Refusal
+no_one_named s m None = Some NotNamed
+no_one_named s m (Some n) = not_once (named s m n)
+
+-- the first reason against an edit
+abbrev pub refusal : Sheet → Edit → Option Refusal
+refusal s AddModule = where_true (nat_le 64 s.modules) TooManyModules
+refusal s (AddVariable m observed) = or_else (no_module s m) (full s)
+refusal s (AddCell m cell observed) = or_else (no_module s m) (full s)
+refusal s (Define v cell) = no_variable s v
+refusal s (Import v name alias from) = or_else (no_module s from) (no_variable s v)
+refusal s (Delete v) = no_variable s v
+refusal s (Redefine m cell) = or_else (no_module s m) (no_one_named s m cell.name)
+
+-- ---- the sheet after an edit
+
+abbrev pub add_row : Sheet → VarRow → Sheet
+add_row s row = record s { rows = s.rows ++ row ∷ [] }
+
+-- the v-th row, changed
+abbrev pub change_row : Sheet → ℕ → (VarRow → VarRow) → Sheet
+change_row s v change = record s { rows = from_option s.rows (λ row. put s.rows v (change row)) (nth s.rows v) }
+
+-- the one variable that has the name
+abbrev pub first_of : List ℕ → ℕ
+first_of [] = 0
+first_of (v ∷ more) = v
+
+abbrev pub the_one_named : Sheet → ℕ → Option Name → ℕ
+the_one_named s m None = 0
+the_one_named s m (Some n) = first_of (named s m n)
+
+-- a name and a body, given at this place
+abbrev pub defined_by : Option Name → BodyOf → ℕ → VarRow → VarRow
+defined_by name body place row = record row { name = name; body = Some body; place = place }
+
+abbrev pub undefined : VarRow → VarRow
+undefined row = record row { name = None; body = None; place = 0 }
+
+-- what an admitted edit at this place makes of the sheet
+abbrev pub edited_sheet : Sheet → Edit → ℕ → Sheet
+edited_sheet s AddModule place = record s { modules = s.modules + 1 }
+edited_sheet s (AddVariable m observed) place =
+    add_row s (record { «module» = m; observed = observed; name = None; body = None; place = 0 })
+edited_sheet s (AddCell m cell observed) place =
+    add_row s (record { «module» = m; observed = observed; name = cell.name; body = Some (CellBody cell); place = place })
+edited_sheet s (Define v cell) place = change_row s v (defined_by cell.name (CellBody cell) place)
+edited_sheet s (Import v name alias from) place = change_row s v (defined_by (Some alias) (ImportBody name from) place)
+edited_sheet s (Delete v) place = change_row s v undefined
+edited_sheet s (Redefine m cell) place =
+    change_row s (the_one_named s m cell.name) (λ row. record row { body = Some (CellBody cell); place = place })
