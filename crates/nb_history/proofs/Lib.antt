@@ -5,3 +5,4 @@ pub mod Closing
 pub mod Histories
 pub mod Scratches
 pub mod Leaving
+pub mod AtRests
