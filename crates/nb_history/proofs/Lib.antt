@@ -8,3 +8,4 @@ pub mod Leaving
 pub mod Cells
 pub mod Walks
 pub mod Rows
+pub mod Printed

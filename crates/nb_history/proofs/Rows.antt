@@ -24,20 +24,20 @@ use Rattle.nb_history.specs.Serial.{serial_within}
 use Rattle.nb_history.proofs.Cells.{plus, cell, gives, fold_int, fold_name, fold_plus, size_int, evaluates_int, size_add, size_rejected, size_rejected_through, size_pending, size_fulfilled}
 use Rattle.nb_history.proofs.Walks.{Inputs, Walked, Phase, is_serial}
 
-abbrev int : ℕ → Expr
+abbrev pub int : ℕ → Expr
 int n = expr.Int (pos n)
 
-abbrev var : Name → Expr
+abbrev pub var : Name → Expr
 var n = expr.Name n
 
-abbrev add : Name → Expr → Edit
+abbrev pub add : Name → Expr → Edit
 add n e = AddCell 0 (cell n e) true
 
 -- a cell that isn't observed
-abbrev hide : Name → Expr → Edit
+abbrev pub hide : Name → Expr → Edit
 hide n e = AddCell 0 (cell n e) false
 
-abbrev edited : Edit → Entry
+abbrev pub edited : Edit → Entry
 edited e = EditEntry 0 e
 
 abbrev lines : List Edit → List (ℕ × Event)
@@ -48,13 +48,13 @@ lines (e ∷ es) = (0, EditEvent e) ∷ lines es
 abbrev serial : ℕ → List Edit → List Entry
 serial n edits = serial_within [] n (nothing_yet []) (record { lines = lines edits; answers = [] })
 
-abbrev pend : ℕ → Entry
+abbrev pub pend : ℕ → Entry
 pend v = Pending v []
 
-abbrev shows : ℕ → ℕ → Entry
+abbrev pub shows : ℕ → ℕ → Entry
 shows v n = Fulfilled v (V.Int (pos n))
 
-abbrev fails : ℕ → ErrorKind → Name → Entry
+abbrev pub fails : ℕ → ErrorKind → Name → Entry
 fails v kind detail = Rejected v (record { kind = kind; detail = detail; via = None })
 
 abbrev fails_through : ℕ → ErrorKind → Name → Name → Entry
@@ -78,7 +78,7 @@ input n k = record { name = n; value = V.Int (pos k) }
 abbrev phase : Edit → List Inputs → List Walked → Phase
 phase edit inputs_now steps = record { edit = edit; inputs_now = inputs_now; steps = steps }
 
-x_is_1_plus_2 : evaluation (cell (codes "x") (plus (int 1) (int 2))) ([]) [] 1 ≡ gives 3
+x_is_1_plus_2 : evaluation (cell (codes "x") (plus (int 1) (int 2))) [] [] 1 ≡ gives 3
 unfolding evaluation
 x_is_1_plus_2 = rw (fold_plus, fold_int, fold_int) (simp (size_int, values.outs-Int))
 
@@ -119,12 +119,12 @@ a_name_waits_for_its_definition =
         simp (size_add, size_pending, size_rejected, fold_plus, fold_int, fold_name),
         refl,
         simp (fold_plus, fold_int, fold_name),
-        (refl, tt, tt, refl, (refl, tt, tt, refl, (refl, (evaluates_int (codes "x") 1 []), (evaluates_int (codes "x") 1 []), refl, (refl, y_is_x_plus_1, y_is_x_plus_1, refl, tt)))),
+        (refl, tt, tt, refl, (refl, tt, tt, refl, (refl, evaluates_int (codes "x") 1 [], evaluates_int (codes "x") 1 [], refl, (refl, y_is_x_plus_1, y_is_x_plus_1, refl, tt)))),
         refl,
       ),
     )
 
-x_is_most_plus_1 : evaluation (cell (codes "x") (plus (int 9223372036854775807) (int 1))) ([]) [] 1 ≡ stops Overflow (codes "+")
+x_is_most_plus_1 : evaluation (cell (codes "x") (plus (int 9223372036854775807) (int 1))) [] [] 1 ≡ stops Overflow (codes "+")
 unfolding evaluation
 x_is_most_plus_1 = rw (fold_plus, fold_int, fold_int) (simp (size_int, values.outs-Int))
 
@@ -143,7 +143,7 @@ a_sum_past_the_greatest_integer_fails =
       refl,
     )
 
-x_is_nearly_most_plus_1 : evaluation (cell (codes "x") (plus (int 9223372036854775806) (int 1))) ([]) [] 1 ≡ gives 9223372036854775807
+x_is_nearly_most_plus_1 : evaluation (cell (codes "x") (plus (int 9223372036854775806) (int 1))) [] [] 1 ≡ gives 9223372036854775807
 unfolding evaluation
 x_is_nearly_most_plus_1 = rw (fold_plus, fold_int, fold_int) (simp (size_int, values.outs-Int))
 
@@ -174,7 +174,7 @@ a_name_defined_twice_fails_where_it_is_read =
       refl,
       refl,
       simp (fold_int),
-      (refl, tt, tt, refl, (refl, (evaluates_int (codes "x") 1 []), (evaluates_int (codes "x") 1 []), refl, tt)),
+      (refl, tt, tt, refl, (refl, evaluates_int (codes "x") 1 [], evaluates_int (codes "x") 1 [], refl, tt)),
       (
         refl,
         refl,
@@ -212,7 +212,7 @@ deleting_one_of_two_mends_the_other =
       refl,
       refl,
       simp (fold_int),
-      (refl, tt, tt, refl, (refl, (evaluates_int (codes "x") 1 []), (evaluates_int (codes "x") 1 []), refl, tt)),
+      (refl, tt, tt, refl, (refl, evaluates_int (codes "x") 1 [], evaluates_int (codes "x") 1 [], refl, tt)),
       (
         refl,
         refl,
@@ -233,7 +233,7 @@ deleting_one_of_two_mends_the_other =
             simp (size_add, size_pending, size_fulfilled, size_rejected, fold_int, fold_name),
             refl,
             simp (fold_int, fold_name),
-            (refl, tt, tt, refl, (refl, tt, tt, refl, (refl, tt, tt, refl, (refl, (evaluates_int (codes "x") 1 []), (evaluates_int (codes "x") 1 []), refl, (refl, y_is_x, y_is_x, refl, tt))))),
+            (refl, tt, tt, refl, (refl, tt, tt, refl, (refl, tt, tt, refl, (refl, evaluates_int (codes "x") 1 [], evaluates_int (codes "x") 1 [], refl, (refl, y_is_x, y_is_x, refl, tt))))),
             refl,
           ),
         ),
@@ -298,7 +298,7 @@ a_cycle_is_mended_by_a_definition =
             simp (size_add, size_pending, size_rejected, size_rejected_through, fold_name),
             refl,
             simp (fold_name, fold_int),
-            (refl, tt, tt, refl, (refl, tt, tt, refl, (refl, tt, tt, refl, (refl, (evaluates_int (codes "b") 1 []), (evaluates_int (codes "b") 1 []), refl, (refl, a_is_b, a_is_b, refl, (refl, c_is_a, c_is_a, refl, tt)))))),
+            (refl, tt, tt, refl, (refl, tt, tt, refl, (refl, tt, tt, refl, (refl, evaluates_int (codes "b") 1 [], evaluates_int (codes "b") 1 [], refl, (refl, a_is_b, a_is_b, refl, (refl, c_is_a, c_is_a, refl, tt)))))),
             refl,
           ),
         ),
@@ -345,7 +345,7 @@ each_of_a_diamond_starts_once =
       refl,
       refl,
       simp (fold_int),
-      (refl, tt, tt, refl, (refl, (evaluates_int (codes "a") 1 []), (evaluates_int (codes "a") 1 []), refl, tt)),
+      (refl, tt, tt, refl, (refl, evaluates_int (codes "a") 1 [], evaluates_int (codes "a") 1 [], refl, tt)),
       (
         refl,
         refl,
@@ -373,7 +373,7 @@ each_of_a_diamond_starts_once =
               simp (size_add, size_pending, size_fulfilled, fold_plus, fold_int, fold_name),
               refl,
               simp (fold_plus, fold_int, fold_name),
-              (refl, tt, tt, refl, (refl, tt, tt, refl, (refl, tt, tt, refl, (refl, tt, tt, refl, (refl, (evaluates_int (codes "a") 10 []), (evaluates_int (codes "a") 10 []), refl, (refl, b_is_a_plus_1_again, b_is_a_plus_1_again, refl, (refl, c_is_a_plus_2_again, c_is_a_plus_2_again, refl, (refl, d_is_b_plus_c_again, d_is_b_plus_c_again, refl, tt)))))))),
+              (refl, tt, tt, refl, (refl, tt, tt, refl, (refl, tt, tt, refl, (refl, tt, tt, refl, (refl, evaluates_int (codes "a") 10 [], evaluates_int (codes "a") 10 [], refl, (refl, b_is_a_plus_1_again, b_is_a_plus_1_again, refl, (refl, c_is_a_plus_2_again, c_is_a_plus_2_again, refl, (refl, d_is_b_plus_c_again, d_is_b_plus_c_again, refl, tt)))))))),
               refl,
             ),
           ),
@@ -405,14 +405,14 @@ a_hidden_cell_runs_while_it_is_read =
         simp (size_add, fold_int),
         refl,
         simp (fold_int, fold_name),
-        (refl, tt, tt, refl, (refl, tt, tt, refl, (refl, (evaluates_int (codes "a") 1 []), (evaluates_int (codes "a") 1 []), refl, (refl, b_is_a, b_is_a, refl, tt)))),
+        (refl, tt, tt, refl, (refl, tt, tt, refl, (refl, evaluates_int (codes "a") 1 [], evaluates_int (codes "a") 1 [], refl, (refl, b_is_a, b_is_a, refl, tt)))),
         (
           refl,
           refl,
           simp (size_add, size_pending, size_fulfilled, fold_int, fold_name),
           refl,
           simp (fold_int),
-          (refl, tt, tt, refl, (refl, tt, tt, refl, (refl, (evaluates_int (codes "b") 5 []), (evaluates_int (codes "b") 5 []), refl, tt))),
+          (refl, tt, tt, refl, (refl, tt, tt, refl, (refl, evaluates_int (codes "b") 5 [], evaluates_int (codes "b") 5 [], refl, tt))),
           refl,
         ),
       ),
