@@ -1,4 +1,4 @@
--- What a cell's free names, text and evaluation are at each kind of expression.
+-- What a fold is at each kind of expression, an evaluation that gives a number, and the sizes of values and of entries.
 use Rattle.std.specs.Prelude.{ℕ, ℤ, pos, ◌≡◌, refl, Bool, ◌+◌, List, [], ◌∷◌, map, length, sum, sum_by, Some, None}
 use Rattle.nb_log.specs.Printing.{entry_size, kind_name}
 use Rattle.nb_syntax.specs.Print.{cell_text}

@@ -101,7 +101,8 @@ unfolding evaluation
 y_is_x_plus_1 = rw (fold_plus, fold_name, fold_int) (simp (size_int, values.outs-Int))
 
 pub a_name_waits_for_its_definition : serial 9 (add (codes "y") (plus (var (codes "x")) (int 1)) ∷ add (codes "x") (int 1) ∷ [])
-    ≡ edited (add (codes "y") (plus (var (codes "x")) (int 1))) ∷ pend 1 ∷ fails 1 NotDefined (codes "x") ∷ edited (add (codes "x") (int 1)) ∷ pend 2 ∷ pend 1 ∷ shows 2 1 ∷ shows 1 2 ∷ []
+    ≡ edited (add (codes "y") (plus (var (codes "x")) (int 1))) ∷ pend 1 ∷ fails 1 NotDefined (codes "x")
+    ∷ edited (add (codes "x") (int 1)) ∷ pend 2 ∷ pend 1 ∷ shows 2 1 ∷ shows 1 2 ∷ []
 unfolding take_chars digits
 a_name_waits_for_its_definition =
     is_serial []
@@ -133,7 +134,8 @@ pub a_sum_past_the_greatest_integer_fails : serial 4 (add (codes "x") (plus (int
 unfolding take_chars
 a_sum_past_the_greatest_integer_fails =
     is_serial []
-    (phase (add (codes "x") (plus (int 9223372036854775807) (int 1))) ([] ∷ []) (told (pend 1) ∷ (fails 1 Overflow (codes "+"), Some (stops Overflow (codes "+"))) ∷ []) ∷ []) (
+    (phase (add (codes "x") (plus (int 9223372036854775807) (int 1))) ([] ∷ [])
+    (told (pend 1) ∷ (fails 1 Overflow (codes "+"), Some (stops Overflow (codes "+"))) ∷ []) ∷ []) (
       refl,
       refl,
       refl,
@@ -161,14 +163,20 @@ a_sum_may_be_the_greatest_integer =
       refl,
     )
 
-pub a_name_defined_twice_fails_where_it_is_read : serial 12 (add (codes "x") (int 1) ∷ add (codes "x") (int 2) ∷ add (codes "y") (var (codes "x")) ∷ [])
-    ≡ edited (add (codes "x") (int 1)) ∷ pend 1 ∷ shows 1 1 ∷ edited (add (codes "x") (int 2)) ∷ pend 1 ∷ pend 2 ∷ fails 1 DefinedTwice (codes "x") ∷ fails 2 DefinedTwice (codes "x") ∷ edited (add (codes "y") (var (codes "x"))) ∷ pend 3 ∷ fails 3 DefinedTwice (codes "x") ∷ []
+pub a_name_defined_twice_fails_where_it_is_read : serial 12 (add (codes "x") (int 1)
+    ∷ add (codes "x") (int 2)
+    ∷ add (codes "y") (var (codes "x")) ∷ [])
+    ≡ edited (add (codes "x") (int 1)) ∷ pend 1 ∷ shows 1 1
+    ∷ edited (add (codes "x") (int 2)) ∷ pend 1 ∷ pend 2 ∷ fails 1 DefinedTwice (codes "x") ∷ fails 2 DefinedTwice (codes "x")
+    ∷ edited (add (codes "y") (var (codes "x"))) ∷ pend 3 ∷ fails 3 DefinedTwice (codes "x") ∷ []
 unfolding take_chars digits
 a_name_defined_twice_fails_where_it_is_read =
     is_serial []
     (phase (add (codes "x") (int 1)) ([] ∷ []) (told (pend 1) ∷ given 1 1 ∷ [])
-    ∷ phase (add (codes "x") (int 2)) ([] ∷ [] ∷ []) (told (pend 1) ∷ told (pend 2) ∷ told (fails 1 DefinedTwice (codes "x")) ∷ told (fails 2 DefinedTwice (codes "x")) ∷ [])
-    ∷ phase (add (codes "y") (var (codes "x"))) ([] ∷ [] ∷ ((codes "x", Twice) ∷ []) ∷ []) (told (pend 3) ∷ told (fails 3 DefinedTwice (codes "x")) ∷ []) ∷ []) (
+    ∷ phase (add (codes "x") (int 2)) ([] ∷ [] ∷ [])
+    (told (pend 1) ∷ told (pend 2) ∷ told (fails 1 DefinedTwice (codes "x")) ∷ told (fails 2 DefinedTwice (codes "x")) ∷ [])
+    ∷ phase (add (codes "y") (var (codes "x"))) ([] ∷ [] ∷ ((codes "x", Twice) ∷ []) ∷ [])
+    (told (pend 3) ∷ told (fails 3 DefinedTwice (codes "x")) ∷ []) ∷ []) (
       refl,
       refl,
       refl,
@@ -198,13 +206,20 @@ y_is_x : evaluation (cell (codes "y") (var (codes "x"))) (input (codes "x") 1 �
 unfolding evaluation
 y_is_x = rw (fold_name) (simp (size_int))
 
-pub deleting_one_of_two_mends_the_other : serial 18 (add (codes "x") (int 1) ∷ add (codes "x") (int 2) ∷ add (codes "y") (var (codes "x")) ∷ Delete 2 ∷ [])
-    ≡ edited (add (codes "x") (int 1)) ∷ pend 1 ∷ shows 1 1 ∷ edited (add (codes "x") (int 2)) ∷ pend 1 ∷ pend 2 ∷ fails 1 DefinedTwice (codes "x") ∷ fails 2 DefinedTwice (codes "x") ∷ edited (add (codes "y") (var (codes "x"))) ∷ pend 3 ∷ fails 3 DefinedTwice (codes "x") ∷ edited (Delete 2) ∷ Left 2 [] ∷ pend 1 ∷ pend 3 ∷ shows 1 1 ∷ shows 3 1 ∷ []
+pub deleting_one_of_two_mends_the_other : serial 18 (add (codes "x") (int 1)
+    ∷ add (codes "x") (int 2)
+    ∷ add (codes "y") (var (codes "x"))
+    ∷ Delete 2 ∷ [])
+    ≡ edited (add (codes "x") (int 1)) ∷ pend 1 ∷ shows 1 1
+    ∷ edited (add (codes "x") (int 2)) ∷ pend 1 ∷ pend 2 ∷ fails 1 DefinedTwice (codes "x") ∷ fails 2 DefinedTwice (codes "x")
+    ∷ edited (add (codes "y") (var (codes "x"))) ∷ pend 3 ∷ fails 3 DefinedTwice (codes "x")
+    ∷ edited (Delete 2) ∷ Left 2 [] ∷ pend 1 ∷ pend 3 ∷ shows 1 1 ∷ shows 3 1 ∷ []
 unfolding take_chars digits
 deleting_one_of_two_mends_the_other =
     is_serial []
     (phase (add (codes "x") (int 1)) ([] ∷ []) (told (pend 1) ∷ given 1 1 ∷ [])
-    ∷ phase (add (codes "x") (int 2)) ([] ∷ [] ∷ []) (told (pend 1) ∷ told (pend 2) ∷ told (fails 1 DefinedTwice (codes "x")) ∷ told (fails 2 DefinedTwice (codes "x")) ∷ [])
+    ∷ phase (add (codes "x") (int 2)) ([] ∷ [] ∷ [])
+    (told (pend 1) ∷ told (pend 2) ∷ told (fails 1 DefinedTwice (codes "x")) ∷ told (fails 2 DefinedTwice (codes "x")) ∷ [])
     ∷ phase (add (codes "y") (var (codes "x"))) ([] ∷ [] ∷ ((codes "x", Twice) ∷ []) ∷ []) (told (pend 3) ∷ told (fails 3 DefinedTwice (codes "x")) ∷ [])
     ∷ phase (Delete 2) ([] ∷ [] ∷ ((codes "x", Var 1) ∷ []) ∷ []) (told (Left 2 []) ∷ told (pend 1) ∷ told (pend 3) ∷ given 1 1 ∷ given 3 1 ∷ []) ∷ []) (
       refl,
@@ -263,15 +278,24 @@ c_is_a : evaluation (cell (codes "c") (var (codes "a"))) (input (codes "a") 1 �
 unfolding evaluation
 c_is_a = rw (fold_name) (simp (size_int))
 
-pub a_cycle_is_mended_by_a_definition : serial 19 (add (codes "a") (var (codes "b")) ∷ add (codes "b") (var (codes "a")) ∷ add (codes "c") (var (codes "a")) ∷ Define 2 (cell (codes "b") (int 1)) ∷ [])
-    ≡ edited (add (codes "a") (var (codes "b"))) ∷ pend 1 ∷ fails 1 NotDefined (codes "b") ∷ edited (add (codes "b") (var (codes "a"))) ∷ pend 1 ∷ pend 2 ∷ fails 1 Circular (codes "a") ∷ fails 2 Circular (codes "b") ∷ edited (add (codes "c") (var (codes "a"))) ∷ pend 3 ∷ fails_through 3 Circular (codes "a") (codes "a") ∷ edited (Define 2 (cell (codes "b") (int 1))) ∷ pend 2 ∷ pend 1 ∷ pend 3 ∷ shows 2 1 ∷ shows 1 1 ∷ shows 3 1 ∷ []
+pub a_cycle_is_mended_by_a_definition : serial 19 (add (codes "a") (var (codes "b"))
+    ∷ add (codes "b") (var (codes "a"))
+    ∷ add (codes "c") (var (codes "a"))
+    ∷ Define 2 (cell (codes "b") (int 1)) ∷ [])
+    ≡ edited (add (codes "a") (var (codes "b"))) ∷ pend 1 ∷ fails 1 NotDefined (codes "b")
+    ∷ edited (add (codes "b") (var (codes "a"))) ∷ pend 1 ∷ pend 2 ∷ fails 1 Circular (codes "a") ∷ fails 2 Circular (codes "b")
+    ∷ edited (add (codes "c") (var (codes "a"))) ∷ pend 3 ∷ fails_through 3 Circular (codes "a") (codes "a")
+    ∷ edited (Define 2 (cell (codes "b") (int 1))) ∷ pend 2 ∷ pend 1 ∷ pend 3 ∷ shows 2 1 ∷ shows 1 1 ∷ shows 3 1 ∷ []
 unfolding take_chars digits
 a_cycle_is_mended_by_a_definition =
     is_serial []
     (phase (add (codes "a") (var (codes "b"))) (((codes "b", Missing) ∷ []) ∷ []) (told (pend 1) ∷ told (fails 1 NotDefined (codes "b")) ∷ [])
-    ∷ phase (add (codes "b") (var (codes "a"))) (((codes "b", Var 2) ∷ []) ∷ ((codes "a", Var 1) ∷ []) ∷ []) (told (pend 1) ∷ told (pend 2) ∷ told (fails 1 Circular (codes "a")) ∷ told (fails 2 Circular (codes "b")) ∷ [])
-    ∷ phase (add (codes "c") (var (codes "a"))) (((codes "b", Var 2) ∷ []) ∷ ((codes "a", Var 1) ∷ []) ∷ ((codes "a", Var 1) ∷ []) ∷ []) (told (pend 3) ∷ told (fails_through 3 Circular (codes "a") (codes "a")) ∷ [])
-    ∷ phase (Define 2 (cell (codes "b") (int 1))) (((codes "b", Var 2) ∷ []) ∷ [] ∷ ((codes "a", Var 1) ∷ []) ∷ []) (told (pend 2) ∷ told (pend 1) ∷ told (pend 3) ∷ given 2 1 ∷ given 1 1 ∷ given 3 1 ∷ []) ∷ []) (
+    ∷ phase (add (codes "b") (var (codes "a"))) (((codes "b", Var 2) ∷ []) ∷ ((codes "a", Var 1) ∷ []) ∷ [])
+    (told (pend 1) ∷ told (pend 2) ∷ told (fails 1 Circular (codes "a")) ∷ told (fails 2 Circular (codes "b")) ∷ [])
+    ∷ phase (add (codes "c") (var (codes "a"))) (((codes "b", Var 2) ∷ []) ∷ ((codes "a", Var 1) ∷ []) ∷ ((codes "a", Var 1) ∷ []) ∷ [])
+    (told (pend 3) ∷ told (fails_through 3 Circular (codes "a") (codes "a")) ∷ [])
+    ∷ phase (Define 2 (cell (codes "b") (int 1))) (((codes "b", Var 2) ∷ []) ∷ [] ∷ ((codes "a", Var 1) ∷ []) ∷ [])
+    (told (pend 2) ∷ told (pend 1) ∷ told (pend 3) ∷ given 2 1 ∷ given 1 1 ∷ given 3 1 ∷ []) ∷ []) (
       refl,
       refl,
       refl,
@@ -330,16 +354,27 @@ unfolding evaluation
 d_is_b_plus_c_again = rw (fold_plus, fold_name, fold_name) (simp (size_int, values.outs-Int))
 
 -- a definition is passed on to each that rests on it, once
-pub each_of_a_diamond_starts_once : serial 22 (add (codes "a") (int 1) ∷ add (codes "b") (plus (var (codes "a")) (int 1)) ∷ add (codes "c") (plus (var (codes "a")) (int 2)) ∷ add (codes "d") (plus (var (codes "b")) (var (codes "c"))) ∷ Define 1 (cell (codes "a") (int 10)) ∷ [])
-    ≡ edited (add (codes "a") (int 1)) ∷ pend 1 ∷ shows 1 1 ∷ edited (add (codes "b") (plus (var (codes "a")) (int 1))) ∷ pend 2 ∷ shows 2 2 ∷ edited (add (codes "c") (plus (var (codes "a")) (int 2))) ∷ pend 3 ∷ shows 3 3 ∷ edited (add (codes "d") (plus (var (codes "b")) (var (codes "c")))) ∷ pend 4 ∷ shows 4 5 ∷ edited (Define 1 (cell (codes "a") (int 10))) ∷ pend 1 ∷ pend 2 ∷ pend 3 ∷ pend 4 ∷ shows 1 10 ∷ shows 2 11 ∷ shows 3 12 ∷ shows 4 23 ∷ []
+pub each_of_a_diamond_starts_once : serial 22 (add (codes "a") (int 1)
+    ∷ add (codes "b") (plus (var (codes "a")) (int 1))
+    ∷ add (codes "c") (plus (var (codes "a")) (int 2))
+    ∷ add (codes "d") (plus (var (codes "b")) (var (codes "c")))
+    ∷ Define 1 (cell (codes "a") (int 10)) ∷ [])
+    ≡ edited (add (codes "a") (int 1)) ∷ pend 1 ∷ shows 1 1
+    ∷ edited (add (codes "b") (plus (var (codes "a")) (int 1))) ∷ pend 2 ∷ shows 2 2
+    ∷ edited (add (codes "c") (plus (var (codes "a")) (int 2))) ∷ pend 3 ∷ shows 3 3
+    ∷ edited (add (codes "d") (plus (var (codes "b")) (var (codes "c")))) ∷ pend 4 ∷ shows 4 5
+    ∷ edited (Define 1 (cell (codes "a") (int 10))) ∷ pend 1 ∷ pend 2 ∷ pend 3 ∷ pend 4 ∷ shows 1 10 ∷ shows 2 11 ∷ shows 3 12 ∷ shows 4 23 ∷ []
 unfolding digits
 each_of_a_diamond_starts_once =
     is_serial []
     (phase (add (codes "a") (int 1)) ([] ∷ []) (told (pend 1) ∷ given 1 1 ∷ [])
     ∷ phase (add (codes "b") (plus (var (codes "a")) (int 1))) ([] ∷ ((codes "a", Var 1) ∷ []) ∷ []) (told (pend 2) ∷ given 2 2 ∷ [])
-    ∷ phase (add (codes "c") (plus (var (codes "a")) (int 2))) ([] ∷ ((codes "a", Var 1) ∷ []) ∷ ((codes "a", Var 1) ∷ []) ∷ []) (told (pend 3) ∷ given 3 3 ∷ [])
-    ∷ phase (add (codes "d") (plus (var (codes "b")) (var (codes "c")))) ([] ∷ ((codes "a", Var 1) ∷ []) ∷ ((codes "a", Var 1) ∷ []) ∷ ((codes "b", Var 2) ∷ (codes "c", Var 3) ∷ []) ∷ []) (told (pend 4) ∷ given 4 5 ∷ [])
-    ∷ phase (Define 1 (cell (codes "a") (int 10))) ([] ∷ ((codes "a", Var 1) ∷ []) ∷ ((codes "a", Var 1) ∷ []) ∷ ((codes "b", Var 2) ∷ (codes "c", Var 3) ∷ []) ∷ []) (told (pend 1) ∷ told (pend 2) ∷ told (pend 3) ∷ told (pend 4) ∷ given 1 10 ∷ given 2 11 ∷ given 3 12 ∷ given 4 23 ∷ []) ∷ []) (
+    ∷ phase (add (codes "c") (plus (var (codes "a")) (int 2))) ([] ∷ ((codes "a", Var 1) ∷ []) ∷ ((codes "a", Var 1) ∷ []) ∷ [])
+    (told (pend 3) ∷ given 3 3 ∷ [])
+    ∷ phase (add (codes "d") (plus (var (codes "b")) (var (codes "c")))) ([] ∷ ((codes "a", Var 1) ∷ []) ∷ ((codes "a", Var 1) ∷ []) ∷ ((codes "b", Var 2) ∷ (codes "c", Var 3) ∷ []) ∷ [])
+    (told (pend 4) ∷ given 4 5 ∷ [])
+    ∷ phase (Define 1 (cell (codes "a") (int 10))) ([] ∷ ((codes "a", Var 1) ∷ []) ∷ ((codes "a", Var 1) ∷ []) ∷ ((codes "b", Var 2) ∷ (codes "c", Var 3) ∷ []) ∷ [])
+    (told (pend 1) ∷ told (pend 2) ∷ told (pend 3) ∷ told (pend 4) ∷ given 1 10 ∷ given 2 11 ∷ given 3 12 ∷ given 4 23 ∷ []) ∷ []) (
       refl,
       refl,
       refl,
@@ -385,8 +420,12 @@ b_is_a : evaluation (cell (codes "b") (var (codes "a"))) (input (codes "a") 1 �
 unfolding evaluation
 b_is_a = rw (fold_name) (simp (size_int))
 
-pub a_hidden_cell_runs_while_it_is_read : serial 11 (hide (codes "a") (int 1) ∷ add (codes "b") (var (codes "a")) ∷ Define 2 (cell (codes "b") (int 5)) ∷ [])
-    ≡ edited (hide (codes "a") (int 1)) ∷ edited (add (codes "b") (var (codes "a"))) ∷ pend 1 ∷ pend 2 ∷ shows 1 1 ∷ shows 2 1 ∷ edited (Define 2 (cell (codes "b") (int 5))) ∷ Left 1 [] ∷ pend 2 ∷ shows 2 5 ∷ []
+pub a_hidden_cell_runs_while_it_is_read : serial 11 (hide (codes "a") (int 1)
+    ∷ add (codes "b") (var (codes "a"))
+    ∷ Define 2 (cell (codes "b") (int 5)) ∷ [])
+    ≡ edited (hide (codes "a") (int 1))
+    ∷ edited (add (codes "b") (var (codes "a"))) ∷ pend 1 ∷ pend 2 ∷ shows 1 1 ∷ shows 2 1
+    ∷ edited (Define 2 (cell (codes "b") (int 5))) ∷ Left 1 [] ∷ pend 2 ∷ shows 2 5 ∷ []
 unfolding digits
 a_hidden_cell_runs_while_it_is_read =
     is_serial []
