@@ -6,3 +6,7 @@ pub mod Histories
 pub mod Scratches
 pub mod Leaving
 pub mod AtRests
+pub mod Cells
+pub mod Walks
+pub mod Rows
+pub mod Printed
