@@ -5,7 +5,7 @@ use crate::tree::Tree;
 use std::alloc::{AllocError, Global};
 use std::marker::Model;
 
-/// The words that start a program, its name first.
+/// The words that start a program, its name first, which contracts see as the list of their bytes.
 #[derive(Debug, Drop)]
 pub struct Argv {
     items: Vec<Text>,
@@ -34,7 +34,7 @@ impl Argv {
         &self.items
     }
 
-    /// An equal list.
+    /// An equal list, in time and memory linear in the bytes of the words. It fails only without memory.
     pub fn copy(&self, alloc: Global) -> Result<Argv, AllocError>
         ensures { IfOk result (λ a. a ≡ self.now) }
     {
@@ -45,7 +45,7 @@ impl Argv {
         Ok(Argv { items })
     }
 
-    /// Whether the two are one list. It takes no memory.
+    /// Whether the two have the same words in the same order. It takes no memory, and time linear in the bytes.
     pub fn same(&self, other: &Argv) -> bool
         ensures { IsTrue result ↔ (self.now ≡ other.now) }
     {

@@ -3,7 +3,7 @@ ghost use Rattle.std.specs.Prelude.{◌≡◌, ◌==◌, [], ◌++◌, length, I
 use std::alloc::{AllocError, Global};
 use std::marker::Model;
 
-/// A list of bytes.
+/// A growing list of bytes, which contracts see as the list of their numbers, each below 256.
 #[derive(Debug, Drop)]
 pub struct Bytes {
     items: Vec<u8>,
@@ -18,6 +18,7 @@ impl Model for Bytes {
 }
 
 impl Bytes {
+    /// No bytes. It takes no memory yet.
     pub fn new(alloc: Global) -> Bytes
         ensures { result ≡ [] }
     {
@@ -26,12 +27,14 @@ impl Bytes {
         }
     }
 
+    /// The bytes of the vector in their order.
     pub fn from_vec(items: Vec<u8>) -> Bytes
         ensures { result ≡ items.items }
     {
         Bytes { items }
     }
 
+    /// The bytes as a vector, with no copy.
     pub fn into_vec(self) -> Vec<u8>
         ensures { result.items ≡ self }
     {
@@ -39,6 +42,7 @@ impl Bytes {
         items
     }
 
+    /// A copy of the bytes, in time and memory linear in their number. It fails only without memory.
     pub fn of(alloc: Global, bytes: &[u8]) -> Result<Bytes, AllocError>
         ensures { IfOk result (λ b. b ≡ bytes.now) }
     {
@@ -47,25 +51,29 @@ impl Bytes {
         })
     }
 
+    /// The bytes in their order.
     pub fn as_slice(&self) -> &[u8]
         ensures { result.now ≡ self.now }
     {
         &self.items
     }
 
+    /// The number of bytes.
     pub fn len(&self) -> usize
         ensures { result ≡ length self.now }
     {
         self.items.len()
     }
 
+    /// Whether there are no bytes.
     pub fn is_empty(&self) -> bool
         ensures { IsTrue result ↔ (self.now ≡ []) }
     {
         self.items.is_empty()
     }
 
-    /// Adds bytes at the end.
+    /// Adds bytes at the end, in time linear in their number on average. It fails only without memory, and then
+    /// nothing has changed.
     pub fn append(&mut self, bytes: &[u8]) -> Result<(), AllocError>
         ensures ok { OnOk result (self.new ≡ self.old ++ bytes.now) }
         ensures err { OnErr result (self.new ≡ self.old) }
@@ -73,14 +81,14 @@ impl Bytes {
         self.items.extend_from_slice(bytes)
     }
 
-    /// Whether the two are one list. It takes no memory.
+    /// Whether the two have the same bytes. It takes no memory, and time linear in the shorter.
     pub fn same(&self, other: &Bytes) -> bool
         ensures { IsTrue result ↔ (self.now ≡ other.now) }
     {
         self.as_slice() == other.as_slice()
     }
 
-    /// An equal list.
+    /// An equal list, in time and memory linear in its bytes. It fails only without memory.
     pub fn copy(&self, alloc: Global) -> Result<Bytes, AllocError>
         ensures { IfOk result (λ b. b ≡ self.now) }
     {

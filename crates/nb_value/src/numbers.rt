@@ -2,7 +2,7 @@ ghost use Rattle.std.specs.Prelude.{◌≡◌, IsTrue, ◌↔◌, Contains};
 
 use std::marker::Model;
 
-/// A list of numbers, such as those of the calls that fail.
+/// A list of numbers of 64 bits, such as those of the calls that fail.
 #[derive(Debug, Drop)]
 pub struct Numbers {
     items: Vec<u64>,
@@ -31,7 +31,7 @@ impl Numbers {
         &self.items
     }
 
-    /// Whether the number is in the list.
+    /// Whether the number is in the list, in time linear in the list.
     pub fn contains(&self, number: u64) -> bool
         ensures { IsTrue result ↔ Contains self.now number }
     {

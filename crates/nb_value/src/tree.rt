@@ -8,13 +8,13 @@ use crate::text::Text;
 use crate::value::Value;
 use std::alloc::{AllocError, Global};
 
-/// What can be copied and told apart.
+/// What can be copied and told apart: a copy equals what it copies.
 pub trait Tree {
-    /// An equal value.
+    /// An equal value, in time and memory linear in it. It fails only without memory.
     fn copy(&self, alloc: Global) -> Result<Self, AllocError>
         ensures { IfOk result (λ v. v ≡ self.now) };
 
-    /// Whether the two are one value. It takes no memory.
+    /// Whether the two are one value. It takes no memory, and time linear in the smaller.
     fn same(&self, other: &Self) -> bool
         ensures { IsTrue result ↔ (self.now ≡ other.now) };
 }

@@ -3,7 +3,7 @@ ghost use Rattle.std.specs.Prelude.{◌≡◌};
 use crate::text::Text;
 use std::marker::Model;
 
-/// The words of a command line, without the program's name.
+/// The words of a command line, without the program's name, which contracts see as the list of their bytes.
 #[derive(Debug, Drop)]
 pub struct Words {
     items: Vec<Text>,

@@ -1,0 +1,92 @@
+ghost use Rattle.std.specs.Prelude.{◌≡◌, List, ℕ};
+ghost use Rattle.nb_io.specs.Named.{bytes_under};
+ghost use Rattle.std.specs.Option.{option_copied};
+
+use crate::{FileFail, Files};
+use nb_value::{Bytes, Numbers, Text};
+use std::alloc::Global;
+use std::marker::Model;
+
+/// Files with their names, which contracts see as a list of names and bytes. Of two with one name the first counts.
+#[derive(Drop)]
+pub struct NamedFiles {
+    items: Vec<(Text, Bytes)>,
+}
+
+impl Model for NamedFiles {
+    ghost use Rattle.std.specs.Prelude.{List, ℕ};
+
+    ghost Value = { List (List ℕ × List ℕ) };
+
+    ghost view = { λ n. n.items.items };
+}
+
+impl NamedFiles {
+    /// The files in this order.
+    pub fn from_vec(items: Vec<(Text, Bytes)>) -> NamedFiles
+        ensures { result ≡ items.items }
+    {
+        NamedFiles { items }
+    }
+
+    fn find(&self, name: &str) -> Option<&Bytes>
+        ensures { option_copied result ≡ bytes_under self.now name.now }
+    {
+        for (file_name, bytes) in &self.items {
+            if file_name.as_str() == name {
+                return Some(bytes);
+            }
+        }
+        None
+    }
+}
+
+/// Files in memory, which tell their bytes. `failing` has the numbers of the calls that fail, counted from 1. A call
+/// for a name without a file fails too. A call takes time linear in the names.
+#[derive(Drop)]
+pub struct MemFiles {
+    alloc: Global,
+    named: NamedFiles,
+    failing: Numbers,
+    calls: u64,
+    faults: u64,
+}
+
+impl MemFiles {
+    /// These files. Its calls take their memory from `alloc`.
+    pub fn new(alloc: Global, named: NamedFiles, failing: Numbers) -> MemFiles
+        ensures files { (name : List ℕ) → ⟦<MemFiles as Files>⟧.bytes_of result name ≡ bytes_under named name }
+        ensures faults { ⟦<MemFiles as Files>⟧.faults result ≡ 0 }
+    {
+        MemFiles {
+            alloc,
+            named,
+            failing,
+            calls: 0,
+            faults: 0,
+        }
+    }
+}
+
+impl Files for MemFiles {
+    ghost bytes_of = { λ f. bytes_under f.named };
+
+    ghost faults = { λ f. f.faults };
+
+    fn read_file(&mut self, name: &str, limit: usize) -> Result<Bytes, FileFail> {
+        self.calls = self.calls.saturating_add(1);
+        let fails = self.failing.contains(self.calls);
+        match self.named.find(name) {
+            Some(bytes) if !fails => {
+                if bytes.len() > limit {
+                    return Err(FileFail::TooLong);
+                }
+                bytes.copy(self.alloc).map_err(|_| FileFail::Memory)
+            }
+            _ => {
+                self.faults = self.faults.saturating_add(1);
+                Err(FileFail::Failed)
+            }
+        }
+    }
+}
