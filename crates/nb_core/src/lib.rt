@@ -1,2 +1,5 @@
 //! The machine of a notebook: it takes events and outcomes, and keeps the log.
 #![tactic(auto)]
+
+mod names;
+mod ties;

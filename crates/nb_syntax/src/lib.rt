@@ -2,6 +2,12 @@
 #![tactic(auto)]
 
 mod copy;
+mod free;
+mod printing;
+#[cfg(test)]
+mod tests;
 mod tree;
 
+pub use free::{Names, free_names};
+pub use printing::print;
 pub use tree::{Body, Cell, Expr, Operand, Sign};
