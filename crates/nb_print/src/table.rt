@@ -1,0 +1,72 @@
+ghost use Rattle.std.specs.Prelude.{◌≡◌, ◌≤◌, ◌<◌, ◌++◌, length, IfOk, OnOk, All, Some};
+ghost use Rattle.nb_log.specs.Printing.{entries_text, line_text, done_value as done_of};
+ghost use Rattle.nb_log.specs.Tickets.{HasSmallTickets};
+ghost use Rattle.nb_history.specs.Lists.{nth};
+ghost use Rattle.nb_history.specs.Print.{table_text, printing};
+ghost use Rattle.nb_history.specs.History.{standing};
+ghost use Rattle.nb_print.specs.Table.{var_text};
+
+use nb_core::Core;
+use nb_log::{Log, VarRow, done_value, push_entries, push_line, table_value};
+use nb_value::Bytes;
+use std::alloc::{AllocError, Global};
+
+/// The lines of a log's entries, in order. Linear in their text.
+pub fn print_log(alloc: Global, log: &Log) -> Result<Bytes, AllocError>
+    requires { All HasSmallTickets log.now.entries }
+    ensures { IfOk result (λ text. text ≡ entries_text log.now.entries) }
+{
+    let mut out = Bytes::new(alloc);
+    push_entries(alloc, &mut out, log.as_slice())?;
+    Ok(out)
+}
+
+/// The table line of each wanted variable, by number, and last the line with the number of entries.
+/// Linear in their text.
+pub fn print_table(alloc: Global, core: &Core) -> Result<Bytes, AllocError>
+    ensures { IfOk result (λ text. text ≡ table_text (standing core.now) ++ line_text (done_of (length core.now.log))) }
+{
+    let mut out = Bytes::new(alloc);
+    push_table(alloc, &mut out, core)?;
+    let done = done_value(alloc, core.log().len())?;
+    push_line(alloc, &mut out, &done)?;
+    Ok(out)
+}
+
+/// All that is written of a core: the lines of its log, and its table.
+pub fn print(alloc: Global, core: &Core) -> Result<Bytes, AllocError>
+    ensures { IfOk result (λ text. text ≡ printing core.now.builtins core.now.log) }
+{
+    let mut text = print_log(alloc, core.log())?;
+    let table = print_table(alloc, core)?;
+    text.append(table.as_slice())?;
+    Ok(text)
+}
+
+fn push_table(alloc: Global, out: &mut Bytes, core: &Core) -> Result<(), AllocError>
+    ensures { OnOk result (out.new ≡ out.old ++ table_text (standing core.now)) }
+{
+    let rows = core.rows();
+    for i in 0..rows.len() {
+        push_variable(alloc, out, core, i as u32 + 1, &rows[i])?;
+    }
+    Ok(())
+}
+
+/// The table line of a variable, if it is wanted.
+fn push_variable(
+    alloc: Global,
+    out: &mut Bytes,
+    core: &Core,
+    var: u32,
+    row: &VarRow,
+) -> Result<(), AllocError>
+    requires { nth (standing core.now).sheet.rows var ≡ Some row.now }
+    ensures { OnOk result (out.new ≡ out.old ++ var_text (standing core.now) var) }
+{
+    if !core.wanted(var) {
+        return Ok(());
+    }
+    let value = table_value(alloc, var, row.name.as_ref(), core.outcome(var))?;
+    push_line(alloc, out, &value)
+}
