@@ -19,9 +19,12 @@ pub struct Log {
 impl Model for Log {
     ghost use Rattle.std.specs.Prelude.{◌≡◌, ◌-◌, ◌^◌, min, vec_len, vec_capacity};
     ghost use Rattle.nb_log.specs.Size.{total_size};
-    ghost use Rattle.nb_log.specs.Written.{Written};
+    ghost use Rattle.nb_log.specs.Written.{Written, written_code};
+    ghost use Rattle.nb_log.specs.contracts.entry.Entry as entry;
 
     ghost Value = { Written };
+
+    ghost coded = { written_code entry.the_row.coded };
 
     ghost view = { λ a. record { entries = a.entries.items; room = vec_capacity a.entries - vec_len a.entries } };
 

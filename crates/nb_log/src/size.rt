@@ -10,14 +10,18 @@ use crate::edit::Edit;
 use crate::entry::Entry;
 use crate::event::{Event, Target};
 use crate::names::{kind_name, refusal_name};
-use nb_syntax::{printed_len, Cell};
+use nb_syntax::{Cell, printed_len};
 use nb_value::{Answer, CellError, Text, Value};
 
 // A field of a number or a truth: its name, and two.
 const MODULE: u64 = 8;
+
 const OBSERVED: u64 = 10;
+
 const VARIABLE: u64 = 10;
+
 const FROM: u64 = 6;
+
 const TICKET: u64 = 8;
 
 /// The size of the array that the entry prints as. It takes no memory.
@@ -48,7 +52,11 @@ pub fn entry_size(entry: &Entry) -> u64
         }
         Entry::Rest { editor: _ } => array_size("rest", 1, 0),
         Entry::Dispose { editor: _ } => array_size("dispose", 1, 0),
-        Entry::Pending { var: _, disposed } => array_size("pending", 1, list_size(disposed.as_slice())),
+        Entry::Pending { var: _, disposed } => array_size(
+            "pending",
+            1,
+            list_size(disposed.as_slice()),
+        ),
         Entry::Fulfilled { var: _, value } => array_size("fulfilled", 1, value.size()),
         Entry::Rejected { var: _, error } => array_size("rejected", 1, error_size(error)),
         Entry::Asked {
@@ -153,7 +161,10 @@ fn edit_size(edit: &Edit) -> u64
             alias,
             from: _,
         } => {
-            let names = value_field("alias", text_size(alias)).saturating_add(value_field("name", text_size(name)));
+            let names = value_field("alias", text_size(alias)).saturating_add(value_field(
+                "name",
+                text_size(name),
+            ));
             object_size("import", names.saturating_add(FROM + VARIABLE))
         }
         Edit::Delete { variable: _ } => object_size("delete", VARIABLE),
@@ -177,7 +188,10 @@ fn event_size(event: &Event) -> u64
         Event::Edit(edit) => edit_size(edit),
         Event::Frame => object_size("frame", 0),
         Event::Settle { target, answer } => {
-            object_size("settle", target_size(target).saturating_add(answer_field_size(answer)))
+            object_size(
+                "settle",
+                target_size(target).saturating_add(answer_field_size(answer)),
+            )
         }
         Event::Rest => object_size("rest", 0),
         Event::Dispose => object_size("dispose", 0),

@@ -18,8 +18,12 @@ pub operands_text-push : (level : ℕ) (os : List Operand) (o : Operand) →
     length (operands_text level (map operand (os ++ o ∷ []))) ≡ length (operands_text level (map operand os)) + length (operand_text level (operand o))
 operands_text-push level [] o = omega (arith, length-append (operand_text level (operand o)) [])
 operands_text-push level (x ∷ os) o =
-    omega (arith, operands_text-push level os o, length-append (operand_text level (operand x)) (operands_text level (map operand (os ++ o ∷ []))),
-        length-append (operand_text level (operand x)) (operands_text level (map operand os)))
+    omega (
+      arith,
+      operands_text-push level os o,
+      length-append (operand_text level (operand x)) (operands_text level (map operand (os ++ o ∷ []))),
+      length-append (operand_text level (operand x)) (operands_text level (map operand os)),
+    )
 
 pub operands_text_more : (level : ℕ) (os : List Operand) (i : ℕ) (d : Operand) → i < length os →
     length (operands_text level (map operand (take (i + 1) os))) ≡ length (operands_text level (map operand (take i os))) + length (operand_text level (operand (get_or os i d)))
