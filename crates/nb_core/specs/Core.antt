@@ -1,0 +1,68 @@
+-- What the calls of the core do, over the history that it keeps.
+use Rattle.std.specs.Prelude.{ℕ, ◌+◌, ◌≡◌, Bool, true, false, List, [], ◌∷◌, ◌++◌, length, Option, Some, None}
+use Rattle.std.specs.List.{filter}
+use Rattle.nb_value.specs.declared.value.Value.{Value}
+use Rattle.nb_value.specs.declared.value.Value.TheVariants.{Null}
+use Rattle.nb_value.specs.declared.pairs.Field.{Field}
+use Rattle.nb_value.specs.declared.outcome.Outcome.{Outcome}
+use Rattle.nb_value.specs.declared.outcome.Outcome.TheVariants.{Value as Shows, Error as Fails}
+use Rattle.nb_eval.specs.declared.given.Segment.{Segment}
+use Rattle.nb_eval.specs.declared.work.Work.{Work}
+use Rattle.nb_eval.specs.declared.work.Work.TheVariants.{Direct, Run}
+use Rattle.nb_log.specs.declared.row.BodyOf.{BodyOf}
+use Rattle.nb_log.specs.declared.row.BodyOf.TheVariants.{Cell as CellBody, Import as ImportBody}
+use Rattle.nb_log.specs.declared.edit.Edit.{Edit}
+use Rattle.nb_log.specs.declared.edit.Edit.TheVariants.{AddCell}
+use Rattle.nb_log.specs.declared.event.Event.{Event}
+use Rattle.nb_log.specs.declared.event.Event.TheVariants.{Edit as EditEvent}
+use Rattle.nb_log.specs.declared.entry.Entry.{Entry}
+use Rattle.nb_history.specs.Lists.{Name, from_option, numbers}
+use Rattle.nb_history.specs.Names.{inputs}
+use Rattle.nb_history.specs.Reading.{Reading, Start, start_of, shown}
+use Rattle.nb_history.specs.Rules.{deciding_error, body_of, values_given, first_value, answers_of, pulls_of, ready, is_running}
+use Rattle.nb_history.specs.Log.{after, read_from}
+use Rattle.nb_history.specs.Serial.{Closes, Todo, SerialFrom, closing, least_var}
+use Rattle.nb_history.specs.History.{History, standing}
+
+-- the event of an added observed cell of module 0
+abbrev pub IsAddedCell : Event → Type 0
+IsAddedCell event = (cell : _) × (event ≡ EditEvent (AddCell 0 cell true))
+
+-- the place of v's `pending` entry in its present start, and 0 for an idle v
+abbrev pub start_number : Reading → ℕ → ℕ
+start_number r v = from_option 0 (λ (s : Start). s.number) (start_of r v)
+
+-- ---- work
+
+abbrev pub values_of : Reading → ℕ → List (Field Value)
+values_of r v = values_given r.sheet (shown r) (inputs r.sheet v)
+
+abbrev pub body_work : Reading → ℕ → Option BodyOf → Work
+body_work r v None = Direct (Shows Null)
+body_work r v (Some (ImportBody name from)) = Direct (Shows (first_value (values_of r v)))
+body_work r v (Some (CellBody cell)) = Run (record { cell = cell; inputs = values_of r v; answers = answers_of r v; pulls = pulls_of r v })
+
+-- what is to be done for a ready v: its outcome where an error decides or it is an import, and else its evaluation
+abbrev pub work_of : Reading → ℕ → Work
+work_of r v = from_option (body_work r v (body_of r.sheet v)) (λ e. Direct (Fails e)) (deciding_error r (shown r) v)
+
+-- ---- entries that are gained
+
+-- the log gained this entry, and then the `left` and `pending` entries that follow from it
+pub record Gains (old : History) (e : Entry) (new : History) : Type 0 where
+  pub builtins : new.builtins ≡ old.builtins
+  pub es : List Entry
+  pub longer : new.log ≡ old.log ++ e ∷ es
+  pub closes : Closes (after (standing old) e) es
+
+-- the log gained entries of the serial history, whatever is still to come, until nothing is ready
+pub record Settles (old new : History) : Type 0 where
+  pub builtins : new.builtins ≡ old.builtins
+  pub es : List Entry
+  pub longer : new.log ≡ old.log ++ es
+  pub serial : (keys : List Name) (todo : Todo) → SerialFrom keys (standing old) todo es todo
+  pub done : least_var (standing new) (ready (standing new)) ≡ None
+
+-- how many variables run
+abbrev pub running : History → ℕ
+running h = length (filter (is_running (standing h)) (numbers (standing h).sheet.rows))

@@ -1,0 +1,153 @@
+-- How the core keeps what stands: rows, starts, and what each variable's names tie it to.
+use Rattle.std.specs.Prelude.{ℕ, ◌+◌, ◌≡◌, ◌≤◌, ◌&&◌, ◌||◌, Bool, true, false, not, List, [], ◌∷◌, ◌++◌, map, length, Option, Some, None, is_some}
+use Rattle.std.specs.List.{list_any}
+use Rattle.nb_value.specs.declared.value.Value.{Value}
+use Rattle.nb_value.specs.declared.value.Value.TheVariants.{Null}
+use Rattle.nb_value.specs.declared.pairs.Field.{Field}
+use Rattle.nb_value.specs.declared.outcome.Outcome.{Outcome}
+use Rattle.nb_value.specs.declared.outcome.Outcome.TheVariants.{Value as Shows, Error as Fails}
+use Rattle.nb_eval.specs.Evaluation.{Evaluated}
+use Rattle.nb_eval.specs.declared.given.Ending.{Ending}
+use Rattle.nb_eval.specs.declared.given.Ending.TheVariants.{Paused, Needs, Done, Failed}
+use Rattle.nb_syntax.specs.declared.tree.Cell.{Cell}
+use Rattle.nb_log.specs.declared.row.BodyOf.{BodyOf}
+use Rattle.nb_log.specs.declared.row.BodyOf.TheVariants.{Cell as CellBody, Import as ImportBody}
+use Rattle.nb_log.specs.declared.row.VarRow.{VarRow}
+use Rattle.nb_log.specs.declared.entry.Entry.{Entry}
+use Rattle.nb_log.specs.declared.entry.Entry.TheVariants.{Fulfilled, Rejected}
+use Rattle.nb_history.specs.Lists.{nth, put, has, from_option, numbers}
+use Rattle.nb_history.specs.Sheet.{Sheet}
+use Rattle.nb_history.specs.Names.{inputs, direct, duplicate, circular, needed}
+use Rattle.nb_history.specs.Reading.{Reading, Start, renewal, shown}
+use Rattle.nb_history.specs.Rules.{is_behind, footing, input_code, marked_error, local_value, evaluation, deciding_error}
+use Rattle.nb_history.specs.Log.{reading, IsLegal, IsQuiet, new_start}
+use Rattle.nb_history.specs.Serial.{closing}
+
+-- one module
+abbrev pub sheet_of : List (Field Value) → List VarRow → Sheet
+sheet_of builtins rows = record { builtins = builtins; modules = 1; rows = rows }
+
+-- what stands after n entries of this size
+abbrev pub reading_of : List (Field Value) → List VarRow → List (Option Start) → ℕ → ℕ → Reading
+reading_of builtins rows starts n size =
+    record { sheet = sheet_of builtins rows; starts = starts; disposed = false; tickets = []; entries = n; size = size }
+
+-- the same, where the number of entries and their size don't matter
+abbrev pub at : List (Field Value) → List VarRow → List (Option Start) → Reading
+at builtins rows starts = reading_of builtins rows starts 0 0
+
+-- ---- what a variable's names tie it to
+
+pub record Ties : Type 0 where
+  pub is_duplicate : Bool
+  pub is_circular : Bool
+  -- the inputs as resolved, each by its number
+  pub inputs : List ℕ
+  -- the variables among them
+  pub direct : List ℕ
+  -- all that it needs
+  pub needed : List ℕ
+
+abbrev pub ties_of : Sheet → ℕ → Ties
+ties_of s v =
+    record {
+      is_duplicate = duplicate s v;
+      is_circular = circular s v;
+      inputs = map input_code (inputs s v);
+      direct = direct s v;
+      needed = needed s v;
+    }
+
+-- those of each variable, by number
+abbrev pub all_ties : Sheet → List Ties
+all_ties s = map (ties_of s) (numbers s.rows)
+
+-- ---- starts
+
+abbrev pub renewal_in : List (Option Start) → ℕ → ℕ
+renewal_in starts u = renewal (at [] [] starts) u
+
+abbrev pub shown_in : List (Option Start) → ℕ → Option Outcome
+shown_in starts u = shown (at [] [] starts) u
+
+-- a variable that is behind, and is circular or needs nothing that is behind
+abbrev pub may_begin : Reading → ℕ → Bool
+may_begin r v = is_behind r v && (circular r.sheet v || not (list_any (is_behind r) (needed r.sheet v)))
+
+-- the starts after v's `pending` entry, the one after n entries
+abbrev pub begun : List (Field Value) → List VarRow → List (Option Start) → ℕ → ℕ → List (Option Start)
+begun builtins rows starts n v = put starts v (Some (new_start (n + 1) (footing (at builtins rows starts) v)))
+
+-- ---- what is shown next
+
+abbrev pub ending_outcome : Ending → Outcome
+ending_outcome (Done x) = Shows x
+ending_outcome (Failed e) = Fails e
+ending_outcome Paused = Shows Null
+ending_outcome (Needs key) = Shows Null
+
+-- what a ready variable of a cell that neither fetches nor yields shows next
+abbrev pub next_outcome : Reading → ℕ → Outcome
+next_outcome r v = from_option (ending_outcome (Evaluated.ending (evaluation r (shown r) v))) (λ e. Fails e) (deciding_error r (shown r) v)
+
+-- the entry that shows it
+abbrev pub shown_entry : ℕ → Outcome → Entry
+shown_entry v (Shows x) = Fulfilled v x
+shown_entry v (Fails e) = Rejected v e
+
+abbrev pub showing_start : Outcome → Start → Start
+showing_start x s = record s { shown = Some x; running = false }
+
+-- ---- what the core keeps
+
+-- the row of an added observed cell of module 0, given at this place
+abbrev pub row_of : Cell → ℕ → VarRow
+row_of cell place = record { «module» = 0; observed = true; name = cell.name; body = Some (CellBody cell); place = place }
+
+abbrev pub is_cell : Option BodyOf → Bool
+is_cell (Some (CellBody cell)) = true
+is_cell (Some (ImportBody name from)) = false
+is_cell None = false
+
+-- every variable is observed and defined by a cell
+abbrev pub IsPlain : List VarRow → Type 0
+IsPlain rows = (v : ℕ) (row : VarRow) → nth rows v ≡ Some row → (row.observed ≡ true) × (is_cell row.body ≡ true)
+
+-- what the starts have in common
+pub record IsBare (n : ℕ) (s : Start) : Type 0 where
+  pub number : s.number ≤ n
+  pub answers : s.answers ≡ []
+  pub owed : s.owed ≡ []
+  pub pulls : s.pulls ≡ 1
+  pub ended : s.ended ≡ false
+  pub fresh : s.running ≡ true → s.shown ≡ None
+
+-- v shows its local value, and its inputs show something
+abbrev pub Local : List (Field Value) → List VarRow → List (Option Start) → ℕ → Type 0
+Local builtins rows starts v =
+    (marked_error (sheet_of builtins rows) v ≡ None → (u : ℕ) → has (direct (sheet_of builtins rows) v) u ≡ true → is_some (shown_in starts u) ≡ true)
+    × (shown_in starts v ≡ local_value (at builtins rows starts) (shown_in starts) v)
+
+-- a variable that doesn't run and isn't behind shows its local value; and the bounds that this rests on
+pub record IsLocal (builtins : List (Field Value)) (rows : List VarRow) (starts : List (Option Start)) (n : ℕ) : Type 0 where
+  pub small : (v : ℕ) (s : Start) → nth starts v ≡ Some (Some s) → (s.renewal ≤ n) × ((x : ℕ) → has s.kept.renewals x ≡ true → x ≤ n)
+  pub shows : (v : ℕ) (s : Start) → nth starts v ≡ Some (Some s) → s.running ≡ false → is_behind (at builtins rows starts) v ≡ false → Local builtins rows starts v
+
+-- the rows and starts are those that the log leaves, and the log is legal
+pub record IsState (builtins : List (Field Value)) (rows : List VarRow) (starts : List (Option Start)) (log : List Entry) : Type 0 where
+  pub stands : reading builtins log ≡ reading_of builtins rows starts (length log) (Reading.size (reading builtins log))
+  pub legal : IsLegal builtins log
+  pub plain : IsPlain rows
+  pub bare : (v : ℕ) (s : Start) → nth starts v ≡ Some (Some s) → IsBare (length log) s
+  pub same_len : length starts ≡ length rows
+  pub local : IsLocal builtins rows starts (length log)
+
+-- nothing is leaving or due
+abbrev pub IsQuietLog : List (Field Value) → List Entry → Type 0
+IsQuietLog builtins log = (closing (reading builtins log) ≡ None) × IsQuiet (reading builtins log)
+
+-- what the core keeps between two calls
+pub record IsCore (builtins : List (Field Value)) (rows : List VarRow) (starts : List (Option Start)) (log : List Entry) : Type 0 where
+  pub state : IsState builtins rows starts log
+  pub quiet : IsQuietLog builtins log
+  pub few : length rows ≤ 1024

@@ -1,0 +1,2 @@
+//! The machine of a notebook: it takes events and outcomes, and keeps the log.
+#![tactic(auto)]
