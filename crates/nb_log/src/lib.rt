@@ -6,8 +6,10 @@ mod entry;
 mod event;
 mod log;
 mod names;
+mod object;
 mod row;
 mod size;
+mod tree;
 
 pub use edit::Edit;
 pub use entry::{Entry, Refusal};
