@@ -19,28 +19,64 @@ pub fn entry_value(alloc: Global, entry: &Entry) -> Result<Value, AllocError>
     ensures { IfOk result (λ v. v ≡ entry_value entry.now) }
 {
     match entry {
-        Entry::Edit { editor, edit } => with_value(alloc, "edit", *editor as u64, edit_value(alloc, edit)?),
+        Entry::Edit { editor, edit } => with_value(
+            alloc,
+            "edit",
+            *editor as u64,
+            edit_value(alloc, edit)?,
+        ),
         Entry::Frame { editor } => array(alloc, "frame", *editor as u64),
-        Entry::Settled { editor, ticket, answer } => {
+        Entry::Settled {
+            editor,
+            ticket,
+            answer,
+        } => {
             let items = two_numbers(alloc, "settled", *editor as u64, *ticket)?;
             with_answer(alloc, items, answer)
         }
         Entry::Late { editor, ticket } => {
             Ok(Value::List(two_numbers(alloc, "late", *editor as u64, *ticket)?))
         }
-        Entry::Loaded { ticket, answer } => with_answer(alloc, one_number(alloc, "loaded", *ticket)?, answer),
-        Entry::Refused { editor, reason, event } => refused_value(alloc, *editor, *reason, event),
+        Entry::Loaded { ticket, answer } => with_answer(
+            alloc,
+            one_number(alloc, "loaded", *ticket)?,
+            answer,
+        ),
+        Entry::Refused {
+            editor,
+            reason,
+            event,
+        } => refused_value(alloc, *editor, *reason, event),
         Entry::Rest { editor } => array(alloc, "rest", *editor as u64),
         Entry::Dispose { editor } => array(alloc, "dispose", *editor as u64),
         Entry::Pending { var, disposed } => {
-            with_value(alloc, "pending", *var as u64, Value::List(disposed.copy(alloc)?))
+            with_value(
+                alloc,
+                "pending",
+                *var as u64,
+                Value::List(disposed.copy(alloc)?),
+            )
         }
-        Entry::Fulfilled { var, value } => with_value(alloc, "fulfilled", *var as u64, value.copy(alloc)?),
-        Entry::Rejected { var, error } => with_error(alloc, one_number(alloc, "rejected", *var as u64)?, error),
+        Entry::Fulfilled { var, value } => with_value(
+            alloc,
+            "fulfilled",
+            *var as u64,
+            value.copy(alloc)?,
+        ),
+        Entry::Rejected { var, error } => with_error(
+            alloc,
+            one_number(alloc, "rejected", *var as u64)?,
+            error,
+        ),
         Entry::Asked { var, ticket, key } => asked_value(alloc, *var, *ticket, key),
         Entry::Ended { var } => array(alloc, "ended", *var as u64),
         Entry::Left { var, disposed } => {
-            with_value(alloc, "left", *var as u64, Value::List(disposed.copy(alloc)?))
+            with_value(
+                alloc,
+                "left",
+                *var as u64,
+                Value::List(disposed.copy(alloc)?),
+            )
         }
     }
 }
@@ -83,21 +119,27 @@ fn with_value(alloc: Global, name: &str, n: u64, value: Value) -> Result<Value, 
     Ok(Value::List(items))
 }
 
+// A text and a value after the items.
+fn with_pair(
+    alloc: Global,
+    items: Items<Value>,
+    name: &str,
+    value: Value,
+) -> Result<Value, AllocError>
+    ensures { IfOk result (λ v. v ≡ V.List (items ++ V.Text name.now ∷ value ∷ [])) }
+{
+    let mut items = items;
+    items.push(text_value(alloc, name)?)?;
+    items.push(value)?;
+    Ok(Value::List(items))
+}
+
 fn with_answer(alloc: Global, items: Items<Value>, answer: &Answer) -> Result<Value, AllocError>
     ensures { IfOk result (λ v. v ≡ V.List (items ++ answer_items answer.now)) }
 {
-    let mut items = items;
     match answer {
-        Answer::Value(value) => {
-            items.push(text_value(alloc, "value")?)?;
-            items.push(value.copy(alloc)?)?;
-            Ok(Value::List(items))
-        }
-        Answer::Failure(text) => {
-            items.push(text_value(alloc, "error")?)?;
-            items.push(Value::Text(text.copy(alloc)?))?;
-            Ok(Value::List(items))
-        }
+        Answer::Value(value) => with_pair(alloc, items, "value", value.copy(alloc)?),
+        Answer::Failure(text) => with_pair(alloc, items, "error", Value::Text(text.copy(alloc)?)),
     }
 }
 
@@ -121,7 +163,12 @@ fn name_value(alloc: Global, name: Option<&Text>) -> Result<Value, AllocError>
     }
 }
 
-fn refused_value(alloc: Global, editor: u8, reason: Refusal, event: &Event) -> Result<Value, AllocError>
+fn refused_value(
+    alloc: Global,
+    editor: u8,
+    reason: Refusal,
+    event: &Event,
+) -> Result<Value, AllocError>
     requires { HasSmallTicket event.now }
     ensures { IfOk result (λ v. v ≡ entry_value (Entry.Refused editor reason event.now)) }
 {
@@ -142,7 +189,12 @@ fn asked_value(alloc: Global, var: u32, ticket: u64, key: &Text) -> Result<Value
 }
 
 /// The line of the table on a variable, with its name and what it shows.
-pub fn table_value(alloc: Global, var: u32, name: Option<&Text>, shown: Option<&Outcome>) -> Result<Value, AllocError>
+pub fn table_value(
+    alloc: Global,
+    var: u32,
+    name: Option<&Text>,
+    shown: Option<&Outcome>,
+) -> Result<Value, AllocError>
     ensures { IfOk result (λ v. v ≡ table_value var (option_copied name.entry) (option_copied shown.entry)) }
 {
     let mut items = one_number(alloc, "value", var as u64)?;
@@ -150,7 +202,11 @@ pub fn table_value(alloc: Global, var: u32, name: Option<&Text>, shown: Option<&
     with_outcome(alloc, items, shown)
 }
 
-fn with_outcome(alloc: Global, items: Items<Value>, shown: Option<&Outcome>) -> Result<Value, AllocError>
+fn with_outcome(
+    alloc: Global,
+    items: Items<Value>,
+    shown: Option<&Outcome>,
+) -> Result<Value, AllocError>
     ensures { IfOk result (λ v. v ≡ V.List (items ++ outcome_items (option_copied shown.entry))) }
 {
     match shown {
@@ -166,14 +222,10 @@ fn with_outcome(alloc: Global, items: Items<Value>, shown: Option<&Outcome>) -> 
 fn with_shown(alloc: Global, items: Items<Value>, shown: &Outcome) -> Result<Value, AllocError>
     ensures { IfOk result (λ v. v ≡ V.List (items ++ outcome_items (Some shown.now))) }
 {
-    let mut items = items;
     match shown {
-        Outcome::Value(value) => {
-            items.push(text_value(alloc, "fulfilled")?)?;
-            items.push(value.copy(alloc)?)?;
-            Ok(Value::List(items))
-        }
+        Outcome::Value(value) => with_pair(alloc, items, "fulfilled", value.copy(alloc)?),
         Outcome::Error(error) => {
+            let mut items = items;
             items.push(text_value(alloc, "rejected")?)?;
             with_error(alloc, items, error)
         }

@@ -11,6 +11,8 @@ mod names;
 mod object;
 mod row;
 mod size;
+#[cfg(test)]
+mod tests;
 mod tree;
 
 pub use array::{done_value, entry_value, table_value};

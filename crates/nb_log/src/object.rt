@@ -10,7 +10,7 @@ ghost use Rattle.nb_log.specs.Objects.{target_field};
 
 use crate::edit::Edit;
 use crate::event::{Event, Target};
-use nb_syntax::{print, Cell};
+use nb_syntax::{Cell, print};
 use nb_value::{Answer, Pairs, Text, Value};
 use std::alloc::{AllocError, Global};
 
@@ -38,13 +38,23 @@ fn object(alloc: Global, action: &str) -> Result<Pairs<Value>, AllocError>
     Ok(fields)
 }
 
-fn put_value(alloc: Global, fields: &mut Pairs<Value>, name: &str, value: Value) -> Result<(), AllocError>
+fn put_value(
+    alloc: Global,
+    fields: &mut Pairs<Value>,
+    name: &str,
+    value: Value,
+) -> Result<(), AllocError>
     ensures { OnOk result (fields.new ≡ put (field name.now value) fields.old) }
 {
     fields.put(Text::from_str(alloc, name)?, value)
 }
 
-fn put_text(alloc: Global, fields: &mut Pairs<Value>, name: &str, text: &Text) -> Result<(), AllocError>
+fn put_text(
+    alloc: Global,
+    fields: &mut Pairs<Value>,
+    name: &str,
+    text: &Text,
+) -> Result<(), AllocError>
     ensures { OnOk result (fields.new ≡ put (field name.now (V.Text text.now)) fields.old) }
 {
     put_value(alloc, fields, name, Value::Text(text.copy(alloc)?))
@@ -61,7 +71,13 @@ fn numbered(alloc: Global, action: &str, name: &str, n: u32) -> Result<Pairs<Val
 }
 
 // The same with the text of a cell.
-fn with_cell(alloc: Global, action: &str, name: &str, n: u32, cell: &Cell) -> Result<Pairs<Value>, AllocError>
+fn with_cell(
+    alloc: Global,
+    action: &str,
+    name: &str,
+    n: u32,
+    cell: &Cell,
+) -> Result<Pairs<Value>, AllocError>
     ensures { IfOk result (λ fields. fields ≡ put (field (codes "cell") (V.Text (cell_text cell.now)))
         (put (field name.now (number n)) (field (codes "do") (V.Text action.now) ∷ []))) }
 {
@@ -82,7 +98,11 @@ pub(crate) fn edit_value(alloc: Global, edit: &Edit) -> Result<Value, AllocError
             put_value(alloc, &mut fields, "observed", Value::Bool(*observed))?;
             Ok(Value::Rec(fields))
         }
-        Edit::AddCell { module, cell, observed } => {
+        Edit::AddCell {
+            module,
+            cell,
+            observed,
+        } => {
             let mut fields = with_cell(alloc, "cell", "module", *module, cell)?;
             put_value(alloc, &mut fields, "observed", Value::Bool(*observed))?;
             Ok(Value::Rec(fields))
@@ -90,9 +110,12 @@ pub(crate) fn edit_value(alloc: Global, edit: &Edit) -> Result<Value, AllocError
         Edit::Define { variable, cell } => {
             Ok(Value::Rec(with_cell(alloc, "define", "variable", *variable, cell)?))
         }
-        Edit::Import { variable, name, alias, from } => {
-            import_value(alloc, *variable, name, alias, *from)
-        }
+        Edit::Import {
+            variable,
+            name,
+            alias,
+            from,
+        } => { import_value(alloc, *variable, name, alias, *from) }
         Edit::Delete { variable } => {
             Ok(Value::Rec(numbered(alloc, "delete", "variable", *variable)?))
         }
@@ -102,7 +125,13 @@ pub(crate) fn edit_value(alloc: Global, edit: &Edit) -> Result<Value, AllocError
     }
 }
 
-fn import_value(alloc: Global, variable: u32, name: &Text, alias: &Text, from: u32) -> Result<Value, AllocError>
+fn import_value(
+    alloc: Global,
+    variable: u32,
+    name: &Text,
+    alias: &Text,
+    from: u32,
+) -> Result<Value, AllocError>
     ensures { IfOk result (λ v. v ≡ edit_object (Edit.Import variable name.now alias.now from)) }
 {
     let mut fields = numbered(alloc, "import", "variable", variable)?;

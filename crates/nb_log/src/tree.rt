@@ -63,9 +63,16 @@ impl Tree for Event {
         match (self, other) {
             (Event::Edit(a), Event::Edit(b)) => a.same(b),
             (Event::Frame, Event::Frame) => true,
-            (Event::Settle { target: s, answer: a }, Event::Settle { target: t, answer: b }) => {
-                s.same(t) && a.same(b)
-            }
+            (
+                Event::Settle {
+                    target: s,
+                    answer: a,
+                },
+                Event::Settle {
+                    target: t,
+                    answer: b,
+                },
+            ) => { s.same(t) && a.same(b) }
             (Event::Rest, Event::Rest) => true,
             (Event::Dispose, Event::Dispose) => true,
             _ => false,
@@ -81,7 +88,11 @@ impl Tree for Edit {
                 module: *module,
                 observed: *observed,
             }),
-            Edit::AddCell { module, cell, observed } => Ok(Edit::AddCell {
+            Edit::AddCell {
+                module,
+                cell,
+                observed,
+            } => Ok(Edit::AddCell {
                 module: *module,
                 cell: cell.copy(alloc)?,
                 observed: *observed,
@@ -90,13 +101,20 @@ impl Tree for Edit {
                 variable: *variable,
                 cell: cell.copy(alloc)?,
             }),
-            Edit::Import { variable, name, alias, from } => Ok(Edit::Import {
+            Edit::Import {
+                variable,
+                name,
+                alias,
+                from,
+            } => Ok(Edit::Import {
                 variable: *variable,
                 name: name.copy(alloc)?,
                 alias: alias.copy(alloc)?,
                 from: *from,
             }),
-            Edit::Delete { variable } => Ok(Edit::Delete { variable: *variable }),
+            Edit::Delete { variable } => Ok(Edit::Delete {
+                variable: *variable,
+            }),
             Edit::Redefine { module, cell } => Ok(Edit::Redefine {
                 module: *module,
                 cell: cell.copy(alloc)?,
@@ -108,19 +126,50 @@ impl Tree for Edit {
         match (self, other) {
             (Edit::AddModule, Edit::AddModule) => true,
             (
-                Edit::AddVariable { module: m, observed: s },
-                Edit::AddVariable { module: n, observed: t },
+                Edit::AddVariable {
+                    module: m,
+                    observed: s,
+                },
+                Edit::AddVariable {
+                    module: n,
+                    observed: t,
+                },
             ) => *m == *n && *s == *t,
             (
-                Edit::AddCell { module: m, cell: a, observed: s },
-                Edit::AddCell { module: n, cell: b, observed: t },
+                Edit::AddCell {
+                    module: m,
+                    cell: a,
+                    observed: s,
+                },
+                Edit::AddCell {
+                    module: n,
+                    cell: b,
+                    observed: t,
+                },
             ) => *m == *n && *s == *t && a.same(b),
-            (Edit::Define { variable: v, cell: a }, Edit::Define { variable: w, cell: b }) => {
-                *v == *w && a.same(b)
-            }
             (
-                Edit::Import { variable: v, name: a, alias: c, from: m },
-                Edit::Import { variable: w, name: b, alias: d, from: n },
+                Edit::Define {
+                    variable: v,
+                    cell: a,
+                },
+                Edit::Define {
+                    variable: w,
+                    cell: b,
+                },
+            ) => { *v == *w && a.same(b) }
+            (
+                Edit::Import {
+                    variable: v,
+                    name: a,
+                    alias: c,
+                    from: m,
+                },
+                Edit::Import {
+                    variable: w,
+                    name: b,
+                    alias: d,
+                    from: n,
+                },
             ) => *v == *w && *m == *n && a.same(b) && c.same(d),
             (Edit::Delete { variable: v }, Edit::Delete { variable: w }) => *v == *w,
             (Edit::Redefine { module: m, cell: a }, Edit::Redefine { module: n, cell: b }) => {
