@@ -1,0 +1,15 @@
+//! The lines of a program's input: which of them is read, and the event that it says.
+#![tactic(auto)]
+
+mod cells;
+mod chars;
+mod form;
+mod lines;
+mod script;
+#[cfg(test)]
+mod tests;
+mod token;
+mod words;
+
+pub use lines::read_lines;
+pub use script::{LineFail, ScriptLine, Scripts};

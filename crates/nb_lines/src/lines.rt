@@ -1,0 +1,85 @@
+ghost use Rattle.std.specs.Prelude.{◌≡◌, ◌≤◌, ◌<◌, ◌==◌, [], ◌∷◌, length, IfSome, IfNone};
+ghost use Rattle.std.specs.List.{position_or_len};
+ghost use Rattle.nb_lines.specs.Lines.{ReadsLines, AddsLine, lines, is_blank};
+
+use crate::form::event_of_line;
+use crate::script::{LineFail, ScriptLine, Scripts};
+use nb_value::Items;
+use std::alloc::Global;
+
+/// The most bytes that a line may have.
+const LONGEST: usize = 200;
+
+/// The number of the last line that is read.
+const LAST: u32 = 64;
+
+/// What the lines of an input say, or the number of the first one that is not read.
+pub fn read_lines(alloc: Global, bytes: &[u8]) -> Result<Scripts, LineFail>
+    requires { length bytes.now ≤ 4194304 }
+    ensures { ReadsLines bytes.now result }
+{
+    let mut found = Items::new(alloc);
+    let mut rest = bytes;
+    let mut number: u32 = 1;
+    'lines: loop {
+        let (line, behind) = cut_line(rest);
+        add_line(alloc, &mut found, number, line)?;
+        match behind {
+            Some(more) => rest = more,
+            None => return Ok(found),
+        }
+        number += 1;
+    }
+}
+
+/// The first line, and the input behind its line feed, if it has one.
+fn cut_line(bytes: &[u8]) -> (&[u8], Option<&[u8]>)
+    ensures last { IfNone result.1 (lines bytes.now ≡ result.0.now ∷ []) }
+    ensures first { IfSome result.1 (λ more. lines bytes.now ≡ result.0.now ∷ lines more.now) }
+    ensures shorter { IfSome result.1 (λ more. length more.now < length bytes.now) }
+{
+    let end = line_end(bytes);
+    let (line, _) = bytes.split_at(end);
+    if end == bytes.len() {
+        return (line, None);
+    }
+    let (_, behind) = bytes.split_at(end + 1);
+    (line, Some(behind))
+}
+
+/// How many bytes stand before the first line feed.
+fn line_end(bytes: &[u8]) -> usize
+    ensures value { result ≡ position_or_len (λ b. b == 10) bytes.now }
+    ensures within { result ≤ length bytes.now }
+{
+    for (i, b) in bytes.iter().enumerate() {
+        if *b == 10 {
+            return i;
+        }
+    }
+    bytes.len()
+}
+
+fn add_line(alloc: Global, found: &mut Scripts, number: u32, line: &[u8]) -> Result<(), LineFail>
+    ensures { AddsLine number line.now found.old found.new result }
+{
+    if is_blank(line) {
+        return Ok(());
+    }
+    if LONGEST < line.len() || LAST < number {
+        return Err(LineFail::NotBuilt(number));
+    }
+    match event_of_line(alloc, line)? {
+        Some(event) => {
+            found.push(ScriptLine { editor: 0, event })?;
+            Ok(())
+        }
+        None => Err(LineFail::NotBuilt(number)),
+    }
+}
+
+fn is_blank(line: &[u8]) -> bool
+    ensures { result ≡ is_blank line.now }
+{
+    line.iter().all(|b| *b == 32 || *b == 9 || *b == 13)
+}
