@@ -12,4 +12,4 @@ mod token;
 mod words;
 
 pub use lines::read_lines;
-pub use script::{LineFail, ScriptLine, Scripts};
+pub use script::{BadReason, LineFail, ScriptLine, Scripts};

@@ -1,22 +1,48 @@
-ghost use Rattle.std.specs.Prelude.{◌≡◌, ◌≤◌, ◌<◌, ◌==◌, [], ◌∷◌, length, IfSome, IfNone};
+ghost use Rattle.std.specs.Prelude.{◌≡◌, ◌≤◌, ◌<◌, ◌==◌, [], ◌∷◌, length, IfOk, IfSome, IfNone};
 ghost use Rattle.std.specs.List.{position_or_len};
-ghost use Rattle.nb_lines.specs.Lines.{ReadsLines, AddsLine, lines, is_blank};
+ghost use Rattle.nb_lines.specs.Lines.{ReadsLines, Reads, AllAddCells, AddsLine, lines, without_last_feed, fault_among, told, scripts_before, is_blank};
 
 use crate::form::event_of_line;
-use crate::script::{LineFail, ScriptLine, Scripts};
+use crate::script::{BadReason, LineFail, ScriptLine, Scripts};
 use nb_value::Items;
 use std::alloc::Global;
 
-/// The most bytes that a line may have.
+/// The most bytes of a line that is built.
 const LONGEST: usize = 200;
 
-/// The number of the last line that is read.
+/// The number of the last line that is built.
 const LAST: u32 = 64;
 
-/// What the lines of an input say, or the number of the first one that is not read.
+/// The most lines that an input may have.
+const MOST_LINES: u32 = 65_536;
+
+/// The most bytes that a line may have, without its line feed, whatever it says.
+const LONGEST_LINE: usize = 65_536;
+
+/// What the lines of an input say, or the first one that is not read, and why.
+///
+/// A blank line is passed over and counted. Linear in the input; a fault is answered without reading on.
 pub fn read_lines(alloc: Global, bytes: &[u8]) -> Result<Scripts, LineFail>
     requires { length bytes.now ≤ 4194304 }
-    ensures { ReadsLines bytes.now result }
+    ensures lines { ReadsLines bytes.now result }
+    ensures cells { IfOk result AllAddCells }
+{
+    read_all(alloc, without_last_feed(bytes))
+}
+
+/// The input without a line feed at its very end.
+fn without_last_feed(bytes: &[u8]) -> &[u8]
+    ensures { result.now ≡ without_last_feed bytes.now }
+{
+    match bytes.last() {
+        Some(b) if *b == 10 => &bytes[..bytes.len() - 1],
+        _ => bytes,
+    }
+}
+
+fn read_all(alloc: Global, bytes: &[u8]) -> Result<Scripts, LineFail>
+    requires { length bytes.now ≤ 4194304 }
+    ensures { Reads (fault_among (told 1 (lines bytes.now))) (scripts_before (told 1 (lines bytes.now))) result }
 {
     let mut found = Items::new(alloc);
     let mut rest = bytes;
@@ -63,6 +89,18 @@ fn line_end(bytes: &[u8]) -> usize
 fn add_line(alloc: Global, found: &mut Scripts, number: u32, line: &[u8]) -> Result<(), LineFail>
     ensures { AddsLine number line.now found.old found.new result }
 {
+    if MOST_LINES < number {
+        return Err(LineFail::Bad {
+            line: number,
+            reason: BadReason::TooManyLines,
+        });
+    }
+    if LONGEST_LINE < line.len() {
+        return Err(LineFail::Bad {
+            line: number,
+            reason: BadReason::LineTooLong,
+        });
+    }
     if is_blank(line) {
         return Ok(());
     }

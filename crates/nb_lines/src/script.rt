@@ -12,11 +12,23 @@ pub struct ScriptLine {
 /// The lines that were read, in their order.
 pub type Scripts = Items<ScriptLine>;
 
+/// Why a line is refused.
+#[derive(Clone, Copy, Debug, PartialEq, Eq)]
+pub enum BadReason {
+    /// It has more than 65,536 bytes, without its line feed.
+    LineTooLong,
+    /// 65,536 lines stand before it.
+    TooManyLines,
+}
+
 /// Why the input is not read.
 #[derive(Clone, Copy, Debug, PartialEq, Eq)]
 pub enum LineFail {
+    /// The number of the first line that is refused, and why.
+    Bad { line: u32, reason: BadReason },
     /// The number of the first line that isn't of the form that is built.
     NotBuilt(u32),
+    /// Memory ran out.
     Memory,
 }
 

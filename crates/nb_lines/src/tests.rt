@@ -81,6 +81,7 @@ fn first_bad(alloc: Global, input: &[u8]) -> Result<u32, Fail> {
     match read_lines(alloc, input) {
         Ok(_) => Ok(0),
         Err(LineFail::NotBuilt(number)) => Ok(number),
+        Err(LineFail::Bad { line, .. }) => Ok(line),
         Err(LineFail::Memory) => Err("memory".into()),
     }
 }

@@ -1,32 +1,21 @@
--- A line that is not read, the last line, and a line with others behind it.
-use Rattle.std.proofs.Common.{◌≡◌, ◌+◌, ◌<◌, [], ◌∷◌, length, sym, ap, ◌∙◌, arith, subst, append-nil, IfNone, IfSome}
-use Rattle.nb_lines.specs.Lines.{lines, told, bad_line, scripts}
-use Rattle.nb_lines.proofs.LineLemmas.{first_of, stops, passes, later_bad, later_scripts}
+-- The lines without a line feed at the very end, and that each adds a cell.
+use Rattle.std.proofs.Common.{◌≡◌, ◌∙◌, ap, sym, subst, Result, Ok, Err, IfOk, List, Option}
+use Rattle.nb_lines.specs.declared.script.ScriptLine.{ScriptLine}
+use Rattle.nb_lines.specs.declared.script.LineFail.{LineFail}
+use Rattle.nb_lines.specs.Lines.{Reads, AllAddCells, told, lines, without_last_feed, fault_among, scripts_before, first_fault, scripts}
+use Rattle.nb_lines.proofs.LineLemmas.{all_add_cells}
 use Rattle.nb_lines.proofs.lines.read_lines.Goals as goal
 
-pub returns-in_err-add_line : goal.returns-in_err-add_line
-returns-in_err-add_line c =
-    let first = first_of c.cut_line.result.1 (λ m. m.now) (lines c.lines.rest.now) c.cut_line.result.0.now c.cut_line.ensures.last c.cut_line.ensures.first in
-    passes c.args.bytes.now c.from_residual.result c.in_err-add_line.field-0.0 c.from_residual.ensures.1
-    (stops c.args.bytes.now c.lines.number (lines c.lines.rest.now) c.cut_line.result.0.now c.lines.found c.add_line.new.found c.in_err-add_line.field-0.0 c.lines.invariant.bad first c.in_err-add_line.ensures)
+all_of : (fault : Option LineFail) (said : List ScriptLine) (r : Result (List ScriptLine) LineFail) → AllAddCells said → Reads fault said r → IfOk r AllAddCells
+all_of fault said (Ok s) h reads = subst AllAddCells (sym reads.1) h
+all_of fault said (Err e) h reads = tt
 
-pub returns-in-None : goal.returns-in-None
-unfolding bad_line scripts
-returns-in-None c =
-    let last : lines c.lines.rest.now ≡ c.cut_line.result.0.now ∷ [] = subst (λ o. IfNone o (lines c.lines.rest.now ≡ c.cut_line.result.0.now ∷ [])) c.in-None.is c.cut_line.ensures.last in (
-      later_bad _ c.lines.number (lines c.lines.rest.now) c.cut_line.result.0.now [] c.lines.invariant.bad last c.in_ok-add_line.ensures.0,
-      sym (later_scripts _ c.lines.number (lines c.lines.rest.now) c.cut_line.result.0.now [] c.lines.found c.add_line.new.found c.lines.invariant.before last c.in_ok-add_line.ensures.0 c.in_ok-add_line.ensures.1
-          ∙ append-nil c.add_line.new.found),
-    )
+here : (c : goal.After-read_all) → Reads (fault_among (told 1 (lines (without_last_feed c.args.bytes.now)))) (scripts_before (told 1 (lines (without_last_feed c.args.bytes.now)))) c.read_all.result
+here c = subst (λ bs. Reads (fault_among (told 1 (lines bs))) (scripts_before (told 1 (lines bs))) c.read_all.result) c.without_last_feed.ensures c.read_all.ensures
 
-pub lines-preserved : goal.lines-preserved
-lines-preserved c =
-    let first : lines c.lines.rest.now ≡ c.cut_line.result.0.now ∷ lines c.in-Some.more.now
-    = subst (λ o. IfSome o (λ m. lines c.lines.rest.now ≡ c.cut_line.result.0.now ∷ lines m.now)) c.in-Some.is c.cut_line.ensures.first in
-    let shorter : length c.in-Some.more.now < length c.lines.rest.now
-    = subst (λ o. IfSome o (λ m. length m.now < length c.lines.rest.now)) c.in-Some.is c.cut_line.ensures.shorter in
-    record {
-      bad = later_bad _ c.lines.number (lines c.lines.rest.now) c.cut_line.result.0.now _ c.lines.invariant.bad first c.in_ok-add_line.ensures.0;
-      before = later_scripts _ c.lines.number (lines c.lines.rest.now) c.cut_line.result.0.now _ c.lines.found c.add_line.new.found c.lines.invariant.before first c.in_ok-add_line.ensures.0 c.in_ok-add_line.ensures.1;
-      within = omega (arith, shorter);
-    }
+pub returns-clause-lines : goal.returns-clause-lines
+unfolding first_fault scripts
+returns-clause-lines c = here c
+
+pub returns-clause-cells : goal.returns-clause-cells
+returns-clause-cells c = all_of _ _ c.read_all.result (all_add_cells (told 1 (lines (without_last_feed c.args.bytes.now)))) (here c)

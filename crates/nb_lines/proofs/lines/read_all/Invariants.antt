@@ -1,10 +1,10 @@
 use Rattle.std.proofs.Common.{◌≡◌, ◌+◌, ◌≤◌, ◌++◌, length}
-use Rattle.nb_lines.specs.Lines.{lines, told, bad_number, scripts_before}
-use Rattle.nb_lines.proofs.lines.read_lines.Given as goal
+use Rattle.nb_lines.specs.Lines.{lines, told, fault_among, scripts_before}
+use Rattle.nb_lines.proofs.lines.read_all.Given as goal
 
 abbrev pub invariant-lines : goal.invariant-lines
 invariant-lines l = record {
-  bad : bad_number (told 1 (lines l.bytes)) ≡ bad_number (told l.number (lines l.rest));
+  bad : fault_among (told 1 (lines l.bytes)) ≡ fault_among (told l.number (lines l.rest));
   before : scripts_before (told 1 (lines l.bytes)) ≡ l.found ++ scripts_before (told l.number (lines l.rest));
   within : l.number + length l.rest ≤ 4194305;
 }
