@@ -1,3 +1,4 @@
 pub mod CellLemmas
 pub mod FormLemmas
+pub mod GrammarLemmas
 pub mod LineLemmas

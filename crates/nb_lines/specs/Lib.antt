@@ -1,3 +1,4 @@
 pub mod Cells
 pub mod Form
+pub mod Grammar
 pub mod Lines

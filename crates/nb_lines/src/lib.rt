@@ -4,6 +4,7 @@
 mod cells;
 mod chars;
 mod form;
+mod grammar;
 mod lines;
 mod script;
 #[cfg(test)]
@@ -11,5 +12,6 @@ mod tests;
 mod token;
 mod words;
 
+pub use grammar::law_of_cells;
 pub use lines::read_lines;
 pub use script::{BadReason, LineFail, ScriptLine, Scripts};

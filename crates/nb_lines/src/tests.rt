@@ -8,70 +8,59 @@ use std::test::Fail;
 
 const GOOD: &str = "{\"do\":\"cell\",\"module\":0,\"cell\":\"x = 1 + 2\"}";
 
+// Texts of a cell, in lines that are else of the form that is read, with whether they are read.
+fn cells() -> [(&'static str, bool); 18] {
+    [
+        ("x=1-y+$_0", true),
+        ("\\n _x\\t=\\r lets ", true),
+        ("x = )", false),
+        ("foo(1)", false),
+        ("x == 1", false),
+        ("x = 0", true),
+        ("x = 007", false),
+        ("x = 1x", false),
+        ("1x = 1", false),
+        ("x = 1 2", false),
+        ("x = -1", false),
+        ("x = 1 +", false),
+        ("x =", false),
+        ("let = 1", false),
+        ("x = null", false),
+        ("x = \\u00e9", false),
+        ("x = 9223372036854775807", true),
+        ("x = 9223372036854775808", false),
+    ]
+}
+
 // Inputs, with the number of the first line that is not read, or 0.
-const INPUTS: [(&str, u32); 37] = [
-    ("", 0),
-    ("\n", 0),
-    ("{\"do\":\"cell\",\"module\":0,\"cell\":\"x = 1 + 2\"}", 0),
-    (
-        "\n \t\r\n{\"do\":\"cell\",\"module\":0,\"cell\":\"x = 1\"}\r\n",
-        0,
-    ),
-    ("\n \t\r\nx", 3),
-    ("{\"do\":\"cell\",\"module\":0,\"cell\":\"x = 1\"}\n[]\n", 2),
-    ("{\"do\":\"cell\",\"module\":0,\"cell\":\"x=1-y+$_0\"}", 0),
-    (
-        "{\"do\":\"cell\",\"module\":0,\"cell\":\"\\n _x\\t=\\r lets \"}",
-        0,
-    ),
-    ("{\"do\":\"cell\",\"module\":0,\"cell\":\"x = )\"}", 1),
-    ("{\"do\":\"cell\",\"module\":0,\"cell\":\"foo(1)\"}", 1),
-    ("{\"do\":\"cell\",\"module\":0,\"cell\":\"x == 1\"}", 1),
-    ("{\"do\":\"cell\",\"module\":0,\"cell\":\"x = 007\"}", 1),
-    ("{\"do\":\"cell\",\"module\":0,\"cell\":\"x = 0\"}", 0),
-    ("{\"do\":\"cell\",\"module\":0,\"cell\":\"x = 1x\"}", 1),
-    ("{\"do\":\"cell\",\"module\":0,\"cell\":\"1x = 1\"}", 1),
-    ("{\"do\":\"cell\",\"module\":0,\"cell\":\"x = 1 2\"}", 1),
-    ("{\"do\":\"cell\",\"module\":0,\"cell\":\"x = -1\"}", 1),
-    ("{\"do\":\"cell\",\"module\":0,\"cell\":\"x = 1 +\"}", 1),
-    ("{\"do\":\"cell\",\"module\":0,\"cell\":\"x =\"}", 1),
-    ("{\"do\":\"cell\",\"module\":0,\"cell\":\"1 + 2\"}", 1),
-    ("{\"do\":\"cell\",\"module\":0,\"cell\":\"let = 1\"}", 1),
-    ("{\"do\":\"cell\",\"module\":0,\"cell\":\"x = null\"}", 1),
-    ("{\"do\":\"cell\",\"module\":0,\"cell\":\"x = \\u00e9\"}", 1),
-    (
-        "{\"do\":\"cell\",\"module\":0,\"cell\":\"x = 9223372036854775807\"}",
-        0,
-    ),
-    (
-        "{\"do\":\"cell\",\"module\":0,\"cell\":\"x = 9223372036854775808\"}",
-        1,
-    ),
-    (
-        "{\"do\":\"cell\",\"module\":0,\"cell\":\"x = 99999999999999999999999\"}",
-        1,
-    ),
-    ("{\"do\":\"cell\",\"module\":0.0,\"cell\":\"x = 1\"}", 1),
-    ("{\"do\":\"cell\",\"module\":-0,\"cell\":\"x = 1\"}", 1),
-    ("{\"do\":\"cell\",\"module\":1,\"cell\":\"x = 1\"}", 1),
-    (
-        "{\"do\":\"cell\",\"module\":0,\"cell\":\"x = 1\",\"observed\":true}",
-        1,
-    ),
-    ("{\"do\":\"cell\",\"module\":0}", 1),
-    ("{\"do\":\"frame\"}", 1),
-    ("{\"do\":\"frame\",\"module\":0,\"cell\":\"x = 1\"}", 1),
-    ("{\"do\":\"cell\",\"module\":0,\"cell\":7}", 1),
-    (
-        "{\"do\":\"cell\",\"module\":1,\"cell\":\"\",\"module\":0,\"cell\":\"x = 1\"}",
-        0,
-    ),
-    (
-        "{\"do\":\"cell\",\"module\":0,\"cell\":\"x = 1\",\"module\":1}",
-        1,
-    ),
-    ("{\"do\":\"cell\",\"module\":0,\"cell\":\"x = 1\"", 1),
-];
+fn inputs() -> [(&'static str, u32); 12] {
+    [
+        ("", 0),
+        ("\n", 0),
+        (
+            "\n \t\r\n{\"do\":\"cell\",\"module\":0,\"cell\":\"x = 1\"}\r\n",
+            0,
+        ),
+        ("\n \t\r\nx", 3),
+        ("{\"do\":\"cell\",\"module\":0.0,\"cell\":\"x = 1\"}", 1),
+        ("{\"do\":\"cell\",\"module\":-0,\"cell\":\"x = 1\"}", 1),
+        (
+            "{\"do\":\"cell\",\"module\":0,\"cell\":\"x = 1\",\"on\":true}",
+            1,
+        ),
+        ("{\"do\":\"cell\",\"module\":0}", 1),
+        ("[]", 1),
+        ("{\"do\":\"frame\",\"module\":0,\"cell\":\"x = 1\"}", 1),
+        (
+            "{\"cell\":\"\",\"do\":\"cell\",\"module\":0,\"cell\":\"x = 1\"}",
+            0,
+        ),
+        (
+            "{\"do\":\"cell\",\"module\":0,\"cell\":\"x = 1\",\"module\":1}",
+            1,
+        ),
+    ]
+}
 
 // The number of the first line that is not read, or 0.
 fn first_bad(alloc: Global, input: &[u8]) -> Result<u32, Fail> {
@@ -87,18 +76,30 @@ fn first_bad(alloc: Global, input: &[u8]) -> Result<u32, Fail> {
 }
 
 #[test]
+fn reads_cells_of_the_form(rt: HostRuntime) -> Result<(), Fail> {
+    let alloc = rt.alloc();
+    for (cell, is_read) in cells() {
+        let line = format!(in alloc; "{{\"do\":\"cell\",\"module\":0,\"cell\":\"{cell}\"}}")?;
+        assert_eq!(rt; first_bad(alloc, line.as_bytes())? == 0, is_read);
+    }
+    Ok(())
+}
+
+#[test]
 fn finds_the_first_line_that_is_not_read(rt: HostRuntime) -> Result<(), Fail> {
     let alloc = rt.alloc();
-    for (input, bad) in INPUTS {
+    for (input, bad) in inputs() {
         assert_eq!(rt; first_bad(alloc, input.as_bytes())?, bad);
     }
-    assert_eq!(rt;
-        first_bad(
-            alloc,
-            b"{\"do\":\"cell\",\"module\":0,\"cell\":\"x = 1 \xff\"}"
-        )?,
-        1
-    );
+    // It would be of the form if it were UTF-8: the last `do` counts.
+    let not_utf8 = b"{\"do\":\"\xff\",\"do\":\"cell\",\"module\":0,\"cell\":\"x = 1\"}";
+    assert_eq!(rt; first_bad(alloc, not_utf8)?, 1);
+    Ok(())
+}
+
+#[test]
+fn keeps_the_limits(rt: HostRuntime) -> Result<(), Fail> {
+    let alloc = rt.alloc();
     let longest = format!(in alloc; "{GOOD:<200}\n{GOOD:<200}")?;
     assert_eq!(rt; first_bad(alloc, longest.as_bytes())?, 0);
     let longer = format!(in alloc; "{GOOD}\n{GOOD:<201}")?;
