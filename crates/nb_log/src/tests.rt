@@ -1,5 +1,5 @@
 //! The lines and the sizes of entries, and each call of the log.
-ghost use Rattle.std.specs.Prelude.{All, IfOk};
+ghost use Rattle.std.specs.Prelude.{All, IfOk, OnOk};
 ghost use Rattle.nb_log.specs.Tickets.{HasSmallTickets};
 
 use crate::array::{done_value, table_value};
@@ -41,50 +41,80 @@ fn rejected(alloc: Global) -> Result<CellError, AllocError> {
     })
 }
 
-fn entries(alloc: Global) -> Result<Vec<Entry>, AllocError>
-    ensures { IfOk result (λ v. All HasSmallTickets v.items) }
+fn add(all: &mut Vec<Entry>, entry: Entry) -> Result<(), AllocError>
+    requires small { HasSmallTickets entry }
+    requires all_small { All HasSmallTickets all.old.items }
+    ensures { OnOk result (All HasSmallTickets all.new.items) }
 {
-    let edit = Edit::AddCell {
+    all.push(entry)?;
+    Ok(())
+}
+
+fn edit(alloc: Global) -> Result<Edit, AllocError> {
+    Ok(Edit::AddCell {
         module: 0,
         cell: cell(alloc)?,
         observed: true,
-    };
-    let late = Event::Settle {
+    })
+}
+
+fn entries(alloc: Global) -> Result<Vec<Entry>, AllocError>
+    ensures { IfOk result (λ v. All HasSmallTickets v.items) }
+{
+    let mut all = Vec::new(alloc);
+    let edit = edit(alloc)?;
+    let disposed = Items::new(alloc);
+    let error = rejected(alloc)?;
+    let event = Event::Settle {
         target: Target::Ticket(7),
         answer: Answer::Failure(Text::from_str(alloc, "e")?),
     };
-    Ok(vec![in alloc;
-        Entry::Edit { editor: 0, edit },
-        Entry::Pending {
-            var: 1,
-            disposed: Items::new(alloc)
-        },
+    let reason = Refusal::LogFull;
+    add(&mut all, Entry::Edit { editor: 0, edit })?;
+    add(&mut all, Entry::Pending { var: 1, disposed })?;
+    add(
+        &mut all,
         Entry::Fulfilled {
             var: 1,
-            value: Value::Int(3)
+            value: Value::Int(3),
         },
-        Entry::Rejected {
-            var: 1,
-            error: rejected(alloc)?
-        },
+    )?;
+    add(&mut all, Entry::Rejected { var: 1, error })?;
+    add(
+        &mut all,
         Entry::Refused {
             editor: 2,
-            reason: Refusal::LogFull,
-            event: late
+            reason,
+            event,
         },
-    ]?)
+    )?;
+    Ok(all)
+}
+
+fn log_of(alloc: Global, entries: Vec<Entry>) -> Result<Log, AllocError>
+    requires { All HasSmallTickets entries.items }
+    ensures { IfOk result (λ log. All HasSmallTickets log.entries) }
+{
+    let mut log = Log::new(alloc);
+    log.reserve(entries.len())?;
+    log.append(entries);
+    Ok(log)
+}
+
+// Whether the text of the entries is this one.
+fn has_lines(alloc: Global, log: &Log, lines: &str) -> Result<bool, AllocError>
+    requires { All HasSmallTickets log.now.entries }
+{
+    let mut out = Bytes::new(alloc);
+    push_entries(alloc, &mut out, log.as_slice())?;
+    Ok(out.as_slice() == lines.as_bytes())
 }
 
 #[test]
 fn keeps_and_prints(rt: HostRuntime) -> Result<(), Fail> {
     let alloc = rt.alloc();
-    let mut log = Log::new(alloc);
-    let all = entries(alloc)?;
-    log.reserve(all.len())?;
-    log.append(all);
-    let mut out = Bytes::new(alloc);
-    push_entries(alloc, &mut out, log.as_slice())?;
-    assert!(rt; out.as_slice() == LINES.as_bytes());
+    let mut log = log_of(alloc, entries(alloc)?)?;
+    assert!(rt; has_lines(alloc, &log, LINES)?);
     log.reserve(1)?;
     log.push(Entry::Frame { editor: 1 });
     assert_eq!(rt; log.len(), 6);
