@@ -1,14 +1,23 @@
-//! The lines and the size of entries, and each call of the log.
-use crate::array::{done_value, entry_value, table_value};
+//! The lines and the sizes of entries, and each call of the log.
+ghost use Rattle.std.specs.Prelude.{All, IfOk, OnOk};
+ghost use Rattle.nb_log.specs.Tickets.{HasSmallTickets};
+
+use crate::array::{done_value, table_value};
 use crate::edit::Edit;
-use crate::entry::Entry;
+use crate::entry::{Entry, Refusal};
+use crate::event::{Event, Target};
 use crate::lines::{push_entries, push_line};
 use crate::log::Log;
 use crate::size::entry_size;
 use nb_syntax::{Body, Cell, Expr, Operand, Sign};
-use nb_value::{Boxed, Bytes, CellError, ErrorKind, Items, Outcome, Text, Tree, Value};
+use nb_value::{Answer, Boxed, Bytes, CellError, ErrorKind, Items, Outcome, Text, Tree, Value};
 use std::alloc::{AllocError, Global};
 use std::test::Fail;
+
+const LINES: &str =
+    "[\"edit\",0,{\"cell\":\"x = 1 + 2\",\"do\":\"cell\",\"module\":0,\"observed\":true}]\n[\"pending\",1,[]]\n[\"fulfilled\",1,3]\n[\"rejected\",1,\"NotDefined\",\"x\",null]\n[\"refused\",2,21,\"LogFull\",{\"do\":\"settle\",\"error\":\"e\",\"ticket\":7}]\n";
+
+const TABLE: &str = "[\"value\",1,\"x\",\"fulfilled\",3]\n[\"done\",6]\n";
 
 // x = 1 + 2
 fn cell(alloc: Global) -> Result<Cell, AllocError> {
@@ -24,43 +33,111 @@ fn cell(alloc: Global) -> Result<Cell, AllocError> {
     })
 }
 
-fn entries(alloc: Global) -> Result<Vec<Entry>, AllocError> {
-    let edit = Edit::AddCell {
-        module: 0,
-        cell: cell(alloc)?,
-        observed: true,
-    };
-    let error = CellError {
+fn rejected(alloc: Global) -> Result<CellError, AllocError> {
+    Ok(CellError {
         kind: ErrorKind::NotDefined,
         detail: Text::from_str(alloc, "x")?,
         via: None,
-    };
+    })
+}
+
+fn add(all: &mut Vec<Entry>, entry: Entry) -> Result<(), AllocError>
+    requires small { HasSmallTickets entry }
+    requires all_small { All HasSmallTickets all.old.items }
+    ensures { OnOk result (All HasSmallTickets all.new.items) }
+{
+    all.push(entry)?;
+    Ok(())
+}
+
+fn edit(alloc: Global) -> Result<Edit, AllocError> {
+    Ok(Edit::AddCell {
+        module: 0,
+        cell: cell(alloc)?,
+        observed: true,
+    })
+}
+
+fn entries(alloc: Global) -> Result<Vec<Entry>, AllocError>
+    ensures { IfOk result (λ v. All HasSmallTickets v.items) }
+{
     let mut all = Vec::new(alloc);
-    all.push(Entry::Edit {
-        editor: 0,
-        edit: edit.copy(alloc)?,
-    })?;
-    all.push(Entry::Pending {
-        var: 1,
-        disposed: Items::new(alloc),
-    })?;
-    all.push(Entry::Fulfilled {
-        var: 1,
-        value: Value::Int(3),
-    })?;
-    all.push(Entry::Rejected { var: 1, error })?;
+    let edit = edit(alloc)?;
+    let disposed = Items::new(alloc);
+    let error = rejected(alloc)?;
+    let event = Event::Settle {
+        target: Target::Ticket(7),
+        answer: Answer::Failure(Text::from_str(alloc, "e")?),
+    };
+    let reason = Refusal::LogFull;
+    add(&mut all, Entry::Edit { editor: 0, edit })?;
+    add(&mut all, Entry::Pending { var: 1, disposed })?;
+    add(
+        &mut all,
+        Entry::Fulfilled {
+            var: 1,
+            value: Value::Int(3),
+        },
+    )?;
+    add(&mut all, Entry::Rejected { var: 1, error })?;
+    add(
+        &mut all,
+        Entry::Refused {
+            editor: 2,
+            reason,
+            event,
+        },
+    )?;
     Ok(all)
+}
+
+fn log_of(alloc: Global, entries: Vec<Entry>) -> Result<Log, AllocError>
+    requires { All HasSmallTickets entries.items }
+    ensures { IfOk result (λ log. All HasSmallTickets log.entries) }
+{
+    let mut log = Log::new(alloc);
+    log.reserve(entries.len())?;
+    log.append(entries);
+    Ok(log)
+}
+
+// Whether the text of the entries is this one.
+fn has_lines(alloc: Global, log: &Log, lines: &str) -> Result<bool, AllocError>
+    requires { All HasSmallTickets log.now.entries }
+{
+    let mut out = Bytes::new(alloc);
+    push_entries(alloc, &mut out, log.as_slice())?;
+    Ok(out.as_slice() == lines.as_bytes())
 }
 
 #[test]
 fn keeps_and_prints(rt: HostRuntime) -> Result<(), Fail> {
     let alloc = rt.alloc();
-    let mut log = Log::new(alloc);
-    log.reserve(5)?;
-    log.push(Entry::Pending {
-        var: 1,
-        disposed: Items::new(alloc),
-    });
-    assert_eq!(rt; log.size(), 11);
+    let mut log = log_of(alloc, entries(alloc)?)?;
+    assert!(rt; has_lines(alloc, &log, LINES)?);
+    log.reserve(1)?;
+    log.push(Entry::Frame { editor: 1 });
+    assert_eq!(rt; log.len(), 6);
+    assert_eq!(rt; log.size(), 49 + 11 + 13 + 25 + 46 + 8);
+    assert!(rt; log.get(0).is_none());
+    assert!(rt; matches!(log.get(6), Some(Entry::Frame { editor: 1 })));
+    assert_eq!(rt; log.get(2).map_or(0, |entry| entry_size(entry)), 11);
+    Ok(())
+}
+
+#[test]
+fn prints_the_table(rt: HostRuntime) -> Result<(), Fail> {
+    let alloc = rt.alloc();
+    let mut out = Bytes::new(alloc);
+    let name = Text::from_str(alloc, "x")?;
+    let shown = Outcome::Value(Value::Int(3));
+    push_line(
+        alloc,
+        &mut out,
+        &table_value(alloc, 1, Some(&name), Some(&shown))?,
+    )?;
+    push_line(alloc, &mut out, &done_value(alloc, 6)?)?;
+    assert!(rt; out.as_slice() == TABLE.as_bytes());
+    assert!(rt; cell(alloc)?.copy(alloc)?.same(&cell(alloc)?));
     Ok(())
 }
