@@ -1,3 +1,4 @@
+pub mod GivenAt
 pub mod Scans
 pub mod StartsAt
 pub mod Tables

@@ -98,8 +98,14 @@ pub struct Started {
 impl Model for Started {
     ghost use Rattle.std.specs.Prelude.{[], None, false};
     ghost use Rattle.nb_history.specs.Reading.{Start};
+    ghost use Rattle.nb_core.specs.Codes.{start_code};
+    ghost use Rattle.nb_value.specs.contracts.outcome.Answer as answer;
+    ghost use Rattle.nb_value.specs.contracts.outcome.Outcome as outcome;
+    ghost use Rattle.nb_value.specs.contracts.value.Value as value;
 
     ghost Value = { Start };
+
+    ghost coded = { start_code answer.the_row.coded outcome.the_row.coded value.the_row.coded };
 
     ghost view = { λ s. record { number = s.number; kept = s.kept; answers = []; ticket = None; pulls = 1; shown = s.shown; running = s.running; ended = false; owed = []; renewal = s.number } };
 }
