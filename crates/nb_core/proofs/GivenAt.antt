@@ -1,6 +1,5 @@
 -- What a ready variable's inputs give, and what is to be done with it.
-use Rattle.std.proofs.Common.{ℕ, zero, suc, ◌≡◌, ◌+◌, ◌-◌, ◌<◌, ◌≤◌, refl, sym, ◌∙◌, ap, Bool, true, false, cond, List, [], ◌∷◌, map, length, drop, get_or, add-one, arith, Option, Some, None, drop-cons}
-use Rattle.std.proofs.lemmas.List.{drop_all}
+use Rattle.std.proofs.Common.{ℕ, ◌≡◌, refl, sym, ◌∙◌, ap, Bool, cond, List, [], ◌∷◌, map, Option, Some, None}
 use Rattle.nb_value.specs.declared.value.Value.{Value}
 use Rattle.nb_value.specs.declared.pairs.Field.{Field}
 use Rattle.nb_value.specs.Fields as fields
@@ -21,62 +20,8 @@ use Rattle.nb_history.specs.Names.{duplicate, circular, inputs, inputs_of_row}
 use Rattle.nb_history.specs.Reading.{Reading, Start, shown}
 use Rattle.nb_history.specs.Rules.{given, first_error, plain_error, value_given, values_given, marked_error, deciding_error, name_of, body_of, answers_of, pulls_of}
 use Rattle.nb_core.specs.Core.{values_of, body_work, work_of}
-use Rattle.nb_core.specs.Given.{given_in, error_in, first_error_in, values_in, marked_by, first_work}
+use Rattle.nb_core.specs.Given.{first_error_in, values_in, marked_by, first_work}
 use Rattle.nb_core.specs.State.{at, sheet_of, shown_in}
-
--- ---- the first input that fails
-
-error_first : (o : Option Outcome) (more : List (Option Outcome)) → first_error (o ∷ more) ≡ or_else (first_error (o ∷ [])) (first_error more)
-error_first None more = refl
-error_first (Some (Shows x)) more = refl
-error_first (Some (Fails e)) more = refl
-
-module _ (builtins : List (Field Value)) (starts : List (Option Start)) (inputs : List (Name × Resolution)) (i : ℕ) (input : Name × Resolution)
-    (inside : i < length inputs) (read : input ≡ get_or inputs i input) where
-  rest : drop i inputs ≡ input ∷ drop (i + 1) inputs
-  rest = drop-cons inputs i input inside ∙ ap (λ x. x ∷ drop (suc i) inputs) (sym read) ∙ ap (λ n. input ∷ drop n inputs) (sym (add-one i))
-
-  next_error : (o : Option CellError) → o ≡ error_in builtins starts input → first_error_in builtins starts (drop i inputs) ≡ or_else o (first_error_in builtins starts (drop (i + 1) inputs))
-  next_error o e =
-      ap (first_error_in builtins starts) rest
-      ∙ error_first (given_in builtins starts input) (map (given (sheet_of builtins []) (shown_in starts)) (drop (i + 1) inputs))
-      ∙ ap (λ (o : Option CellError). or_else o (first_error_in builtins starts (drop (i + 1) inputs))) (sym e)
-
-  -- the turns of the scan, where the input fails and where not
-  pub error_hit : (o : Option CellError) (e : CellError) → o ≡ error_in builtins starts input → o ≡ Some e
-      → first_error_in builtins starts (drop i inputs) ≡ first_error_in builtins starts inputs → Some e ≡ first_error_in builtins starts inputs
-  error_hit o e told is inv =
-      sym (ap (λ (o : Option CellError). or_else o (first_error_in builtins starts (drop (i + 1) inputs))) is) ∙ sym (next_error o told) ∙ inv
-
-  pub error_miss : (o : Option CellError) → o ≡ error_in builtins starts input → o ≡ None
-      → first_error_in builtins starts (drop i inputs) ≡ first_error_in builtins starts inputs → first_error_in builtins starts (drop (i + 1) inputs) ≡ first_error_in builtins starts inputs
-  error_miss o told is inv =
-      sym (ap (λ (o : Option CellError). or_else o (first_error_in builtins starts (drop (i + 1) inputs))) is) ∙ sym (next_error o told) ∙ inv
-
--- ---- the values, from the last input to the first
-
-module _ (builtins : List (Field Value)) (starts : List (Option Start)) (inputs : List (Name × Resolution)) where
-  pub values_none : [] ≡ values_in builtins starts (drop (length inputs - 0) inputs)
-  values_none =
-      let less : length inputs ≤ length inputs - 0 = omega arith in
-      sym (ap (values_in builtins starts) (drop_all (length inputs - 0) inputs less))
-
-  pub values_more : (k place : ℕ) (input : Name × Resolution) (value : Value) (old new : List (Field Value)) → k < length inputs → place ≡ length inputs - 1 - k
-      → input ≡ get_or inputs place input → value ≡ value_given (given_in builtins starts input) → old ≡ values_in builtins starts (drop (length inputs - k) inputs)
-      → new ≡ fields.put (record { name = input.0; value = value }) old → new ≡ values_in builtins starts (drop (length inputs - (k + 1)) inputs)
-  values_more k place input value old new less at read told inv e =
-      let inside : place < length inputs = omega (arith, at, less) in
-      let here : place ≡ length inputs - (k + 1) = omega (arith, at, less) in
-      let next : place + 1 ≡ length inputs - k = omega (arith, at, less) in
-      e ∙ ap (λ (v : Value). fields.put (record { name = input.0; value = v }) old) told
-      ∙ ap (λ (fs : List (Field Value)). fields.put (record { name = input.0; value = value_given (given_in builtins starts input) }) fs) (inv ∙ ap (λ (n : ℕ). values_in builtins starts (drop n inputs)) (sym next))
-      ∙ sym (ap (values_in builtins starts) (rest builtins starts inputs place input inside read))
-      ∙ ap (λ (n : ℕ). values_in builtins starts (drop n inputs)) here
-
-  pub values_all : (k : ℕ) (found : List (Field Value)) → k ≡ length inputs → found ≡ values_in builtins starts (drop (length inputs - k) inputs) → found ≡ values_in builtins starts inputs
-  values_all k found e inv =
-      let none : length inputs - k ≡ 0 = omega (arith, e) in
-      inv ∙ ap (λ (n : ℕ). values_in builtins starts (drop n inputs)) none
 
 -- ---- builtins alone decide what an input gives, beside what is shown
 
