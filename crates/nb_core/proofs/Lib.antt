@@ -1,2 +1,4 @@
+pub mod GivenAt
 pub mod Scans
+pub mod StartsAt
 pub mod Tables

@@ -1,13 +1,13 @@
 -- Marks of numbers, rounds over a table of direct needs, and what each variable's names tie it to.
-use Rattle.std.proofs.Common.{inl, inr, ◌⊎◌, ℕ, zero, suc, ◌≡◌, ◌+◌, ◌-◌, ◌<◌, ◌≤◌, refl, sym, ◌∙◌, ap, subst, Bool, true, false, cond, ◌&&◌, ◌||◌, eqb, ltb, List, [], ◌∷◌, ◌++◌, append-nil, map, length, take, length-take, get_or, set, replicate, add-zero, add-one, arith, Option, Some, None}
+use Rattle.std.proofs.Common.{inl, inr, ◌⊎◌, ℕ, zero, suc, ◌≡◌, ◌+◌, ◌-◌, ◌<◌, ◌≤◌, refl, sym, ◌∙◌, ap, Bool, true, false, cond, ◌||◌, eqb, List, [], ◌∷◌, ◌++◌, append-nil, map, length, take, length-take, get_or, set, replicate, add-zero, arith, Option, Some, None}
 use Rattle.std.specs.Prelude.{slice_get}
 use Rattle.std.specs.List.{filter, filter_map, list_any, range_with_len}
 use Rattle.std.proofs.lemmas.List.{take_more}
 use Rattle.std.proofs.lemmas.List.FromFn.{length-range_with_len, length-map-range_with_len, get_or-map-range_with_len, map-range_with_len_more}
-use Rattle.std.proofs.lemmas.Bool.{cases_Bool, cases_eq, ne_eqb, eq-eqb, true≢false}
+use Rattle.std.proofs.lemmas.Bool.{cases_lt, ne_eqb, eq-eqb}
 use Rattle.nb_log.specs.declared.row.VarRow.{VarRow}
 use Rattle.nb_history.specs.declared.resolution.Resolution.{Resolution}
-use Rattle.nb_history.specs.Lists.{Name, has, nth, numbers, numbers_from, from_option}
+use Rattle.nb_history.specs.Lists.{Name, has, nth, numbers, from_option}
 use Rattle.nb_history.specs.Reach.{grown, rounds}
 use Rattle.nb_history.specs.Sheet.{Sheet}
 use Rattle.nb_history.specs.Names.{direct, needed, duplicate, circular, inputs, inputs_of_row, is_duplicate_row, variable_of}
@@ -69,21 +69,21 @@ length-marked_from k us [] = refl
 length-marked_from k us (b ∷ bs) = ap (λ (n : ℕ). suc n) (length-marked_from (k + 1) us bs)
 
 -- the turns of the loop that sets marks
-pub mark_yes : (us : List ℕ) (i : ℕ) (u : ℕ) (old now : List Bool) → i < length us → u ≡ get_or us i u → 0 < u → u ≤ length old → now ≡ marked_from 1 (take i us) old
+pub mark_yes : (us : List ℕ) (i : ℕ) (u : ℕ) (old now : List Bool) → i < length us → u ≡ get_or us i 0 → 0 < u → u ≤ length old → now ≡ marked_from 1 (take i us) old
     → set now (u - 1) true ≡ marked_from 1 (take (i + 1) us) old
 mark_yes us i u old now h at low high inv =
     let e : 1 + (u - 1) ≡ u = omega (arith, low) in
     ap (λ (l : List Bool). set l (u - 1) true) inv
     ∙ sym (marked_inside 1 (take i us) (u - 1) old (omega (arith, low, high)))
     ∙ ap (λ (m : ℕ). marked_from 1 (take i us ++ m ∷ []) old) (e ∙ at)
-    ∙ ap (λ (l : List ℕ). marked_from 1 l old) (sym (take_more us i u h))
+    ∙ ap (λ (l : List ℕ). marked_from 1 l old) (sym (take_more us i 0 h))
 
-pub mark_no : (us : List ℕ) (i : ℕ) (u : ℕ) (old now : List Bool) → i < length us → u ≡ get_or us i u → ((u < 1) ⊎ (1 + length old ≤ u)) → now ≡ marked_from 1 (take i us) old
+pub mark_no : (us : List ℕ) (i : ℕ) (u : ℕ) (old now : List Bool) → i < length us → u ≡ get_or us i 0 → ((u < 1) ⊎ (1 + length old ≤ u)) → now ≡ marked_from 1 (take i us) old
     → now ≡ marked_from 1 (take (i + 1) us) old
 mark_no us i u old now h at out inv =
     inv ∙ sym (marked_outside 1 (take i us) u old out)
     ∙ ap (λ (m : ℕ). marked_from 1 (take i us ++ m ∷ []) old) at
-    ∙ ap (λ (l : List ℕ). marked_from 1 l old) (sym (take_more us i u h))
+    ∙ ap (λ (l : List ℕ). marked_from 1 l old) (sym (take_more us i 0 h))
 
 pub marked_nothing : (k : ℕ) (bs : List Bool) → bs ≡ marked_from k [] bs
 marked_nothing k [] = refl
@@ -108,12 +108,12 @@ module _ (direct : ℕ → List ℕ) (vs : List ℕ) (n : ℕ) where
       e ∙ ap (marked_from 1 vs) (o ∙ none_marked 1 n) ∙ marked_test (λ u. false) vs 1 n
       ∙ map_agree (λ u. has vs u) (λ u. has vs u || list_any (λ w. has (direct w) u) (take 0 vs)) (λ u. sym (or_false (has vs u))) (range_with_len 1 n)
 
-  pub reached_more : (i w : ℕ) (old now : List Bool) → i < length vs → w ≡ get_or vs i w → old ≡ reached_by i → now ≡ marked_from 1 (direct w) old → now ≡ reached_by (i + 1)
+  pub reached_more : (i w : ℕ) (old now : List Bool) → i < length vs → w ≡ get_or vs i 0 → old ≡ reached_by i → now ≡ marked_from 1 (direct w) old → now ≡ reached_by (i + 1)
   reached_more i w old now h at inv e =
       let more : (u : ℕ) → ((has vs u || list_any (λ w. has (direct w) u) (take i vs)) || has (direct w) u) ≡ (has vs u || list_any (λ w. has (direct w) u) (take (i + 1) vs)) =
-        λ u. or_assoc (has vs u) (list_any (λ w. has (direct w) u) (take i vs)) (has (direct w) u)
-          ∙ ap (λ (b : Bool). has vs u || b) (sym (any_push (λ w. has (direct w) u) (take i vs) w)
-            ∙ ap (λ (l : List ℕ). list_any (λ w. has (direct w) u) l) (ap (λ (m : ℕ). take i vs ++ m ∷ []) at ∙ sym (take_more vs i w h))) in
+      λ u. or_assoc (has vs u) (list_any (λ w. has (direct w) u) (take i vs)) (has (direct w) u)
+      ∙ ap (λ (b : Bool). has vs u || b) (sym (any_push (λ w. has (direct w) u) (take i vs) w)
+      ∙ ap (λ (l : List ℕ). list_any (λ w. has (direct w) u) l) (ap (λ (m : ℕ). take i vs ++ m ∷ []) at ∙ sym (take_more vs i 0 h))) in
       e ∙ ap (marked_from 1 (direct w)) inv ∙ marked_test (λ u. has vs u || list_any (λ w. has (direct w) u) (take i vs)) (direct w) 1 n
       ∙ map_agree (λ u. (has vs u || list_any (λ w. has (direct w) u) (take i vs)) || has (direct w) u) (λ u. has vs u || list_any (λ w. has (direct w) u) (take (i + 1) vs)) more (range_with_len 1 n)
 
@@ -127,21 +127,21 @@ pub grown_marked : (table : List (List ℕ)) (vs : List ℕ) (marks : List Bool)
 grown_marked table vs marks more m e = e ∙ ap (numbers_marked 1) m ∙ numbers_of_marks (reaches (needs_in table) vs) 1 (length table)
 
 -- the turns of the loop that lists marked numbers
-pub list_yes : (marks : List Bool) (i : ℕ) (b : Bool) (found : List ℕ) → i < length marks → b ≡ get_or marks i b → b ≡ true → found ≡ numbers_marked 1 (take i marks) → found ++ (i + 1) ∷ [] ≡ numbers_marked 1 (take (i + 1) marks)
-list_yes marks i b found h at t inv =
+pub list_yes : (marks : List Bool) (i : ℕ) (found : List ℕ) → i < length marks → get_or marks i false ≡ true → found ≡ numbers_marked 1 (take i marks) → found ++ (i + 1) ∷ [] ≡ numbers_marked 1 (take (i + 1) marks)
+list_yes marks i found h t inv =
     let len : 1 + length (take i marks) ≡ i + 1 = rw length-take (omega arith) in
     ap (λ (l : List ℕ). l ++ (i + 1) ∷ []) inv
     ∙ ap (λ (m : ℕ). numbers_marked 1 (take i marks) ++ m ∷ []) (sym len)
-    ∙ ap (λ (c : Bool). numbers_marked 1 (take i marks) ++ cond c ((1 + length (take i marks)) ∷ []) []) (sym (sym at ∙ t))
-    ∙ sym (numbers_from_push (λ b. b) 1 (take i marks) (get_or marks i b))
-    ∙ ap (λ (l : List Bool). numbers_marked 1 l) (sym (take_more marks i b h))
+    ∙ ap (λ (c : Bool). numbers_marked 1 (take i marks) ++ cond c ((1 + length (take i marks)) ∷ []) []) (sym t)
+    ∙ sym (numbers_from_push (λ b. b) 1 (take i marks) (get_or marks i false))
+    ∙ ap (λ (l : List Bool). numbers_marked 1 l) (sym (take_more marks i false h))
 
-pub list_no : (marks : List Bool) (i : ℕ) (b : Bool) (found : List ℕ) → i < length marks → b ≡ get_or marks i b → b ≡ false → found ≡ numbers_marked 1 (take i marks) → found ≡ numbers_marked 1 (take (i + 1) marks)
-list_no marks i b found h at t inv =
+pub list_no : (marks : List Bool) (i : ℕ) (found : List ℕ) → i < length marks → get_or marks i false ≡ false → found ≡ numbers_marked 1 (take i marks) → found ≡ numbers_marked 1 (take (i + 1) marks)
+list_no marks i found h t inv =
     inv ∙ sym (append-nil (numbers_marked 1 (take i marks)))
-    ∙ ap (λ (c : Bool). numbers_marked 1 (take i marks) ++ cond c ((1 + length (take i marks)) ∷ []) []) (sym (sym at ∙ t))
-    ∙ sym (numbers_from_push (λ b. b) 1 (take i marks) (get_or marks i b))
-    ∙ ap (λ (l : List Bool). numbers_marked 1 l) (sym (take_more marks i b h))
+    ∙ ap (λ (c : Bool). numbers_marked 1 (take i marks) ++ cond c ((1 + length (take i marks)) ∷ []) []) (sym t)
+    ∙ sym (numbers_from_push (λ b. b) 1 (take i marks) (get_or marks i false))
+    ∙ ap (λ (l : List Bool). numbers_marked 1 l) (sym (take_more marks i false h))
 
 -- ---- rounds
 
@@ -157,9 +157,6 @@ rounds_stop direct all first vs more k n h inv m same =
     let e : k + (n - k) ≡ n = omega (arith, h) in
     same ∙ sym (steady direct all vs first k (n - k) (sym m ∙ same) (sym inv)) ∙ ap (λ (j : ℕ). rounds direct all j first) e
 
-pub rounds_more : (direct : ℕ → List ℕ) (all first vs more : List ℕ) (k : ℕ) → vs ≡ rounds direct all k first → more ≡ grown direct all vs → more ≡ rounds direct all (k + 1) first
-rounds_more direct all first vs more k inv m = m ∙ ap (grown direct all) inv ∙ ap (λ (j : ℕ). rounds direct all j first) (sym (add-one k))
-
 -- ---- tables of all variables
 
 -- a table by a function of the number
@@ -174,34 +171,47 @@ table_at f n v d low high = get_or-map-range_with_len f 1 n (v - 1) v d (omega (
 pub ties_at : (s : Sheet) (v : ℕ) (d : Ties) → 0 < v → v ≤ length s.rows → get_or (all_ties s) (v - 1) d ≡ ties_of s v
 ties_at s v d low high = table_at (ties_of s) (length s.rows) v d low high
 
-slice_map : {A : Type 0} (f : ℕ → A) (k n i : ℕ) → slice_get (map f (range_with_len k n)) i ≡ cond (ltb i n) (Some (f (k + i))) None
-slice_map f k zero i = refl
-slice_map f k (suc n) zero = let e : k ≡ k + 0 = omega arith in ap (λ (m : ℕ). Some (f m)) e
-slice_map f k (suc n) (suc i) =
+slice_map : {A : Type 0} (f : ℕ → A) (k n i : ℕ) → i < n → slice_get (map f (range_with_len k n)) i ≡ Some (f (k + i))
+slice_map f k zero i h = absurd (omega (arith, h))
+slice_map f k (suc n) zero h = let e : k ≡ k + 0 = omega arith in ap (λ (m : ℕ). Some (f m)) e
+slice_map f k (suc n) (suc i) h =
     let e : k + 1 + i ≡ k + suc i = omega arith in
-    slice_map f (k + 1) n i ∙ ap (λ (m : ℕ). cond (ltb i n) (Some (f m)) None) e
+    slice_map f (k + 1) n i (omega (arith, h)) ∙ ap (λ (m : ℕ). Some (f m)) e
 
-slice_outside : {A : Type 0} (xs : List A) (i : ℕ) → ltb i (length xs) ≡ false → slice_get xs i ≡ None
+slice_outside : {A : Type 0} (xs : List A) (i : ℕ) → length xs ≤ i → slice_get xs i ≡ None
 slice_outside [] i h = refl
-slice_outside (x ∷ xs) zero h = absurd (true≢false h)
-slice_outside (x ∷ xs) (suc i) h = slice_outside xs i h
+slice_outside (x ∷ xs) zero h = absurd (omega (arith, h))
+slice_outside (x ∷ xs) (suc i) h = slice_outside xs i (omega (arith, h))
+
+needs_outside : (table : List (List ℕ)) (w : ℕ) → ((w < 1) ⊎ (1 + length table ≤ w)) → needs_in table w ≡ []
+needs_outside table zero h = refl
+needs_outside table (suc i) h =
+    elim h [
+      | inl low ↦ absurd (omega (arith, low))
+      | inr high ↦ ap (λ (o : Option (List ℕ)). from_option [] (λ ns. ns) o) (slice_outside table i (omega (arith, high)))
+    ]
+
+-- where w has no direct needs in the table, they mark nothing
+pub unmarked : (table : List (List ℕ)) (w : ℕ) (bs : List Bool) → ((w < 1) ⊎ (1 + length table ≤ w)) → bs ≡ marked_from 1 (needs_in table w) bs
+unmarked table w bs h = marked_nothing 1 bs ∙ ap (λ (l : List ℕ). marked_from 1 l bs) (sym (needs_outside table w h))
 
 -- the direct needs in the table are those of the sheet
 module _ (s : Sheet) where
   needs_at : (w : ℕ) → needs_in (map (direct s) (numbers s.rows)) w ≡ direct s w
   needs_at zero = refl
-  needs_at (suc i) =
-      ap (λ (o : Option (List ℕ)). from_option [] (λ ns. ns) o) (slice_map (direct s) 1 (length s.rows) i)
-      ∙ elim (cases_Bool (ltb i (length s.rows))) [
-        inl here ↦ let e : 1 + i ≡ suc i = omega arith in ap (λ (b : Bool). from_option [] (λ ns. ns) (cond b (Some (direct s (1 + i))) None)) here ∙ ap (direct s) e
-      | inr not_here ↦ ap (λ (b : Bool). from_option [] (λ ns. ns) (cond b (Some (direct s (1 + i))) None)) not_here
-          ∙ sym (ap (λ (o : Option VarRow). filter_map variable_of (from_option [] (inputs_of_row s) o)) (slice_outside s.rows i not_here))
-      ]
+  needs_at (suc i) = elim (cases_lt i (length s.rows)) [
+    | inl inside ↦
+        let e : 1 + i ≡ suc i = omega arith in
+        ap (λ (o : Option (List ℕ)). from_option [] (λ ns. ns) o) (slice_map (direct s) 1 (length s.rows) i inside) ∙ ap (direct s) e
+    | inr outside ↦
+        ap (λ (o : Option (List ℕ)). from_option [] (λ ns. ns) o) (slice_outside (map (direct s) (numbers s.rows)) i (omega (arith, length-map-range_with_len (direct s) 1 (length s.rows), outside)))
+        ∙ sym (ap (λ (o : Option VarRow). filter_map variable_of (from_option [] (inputs_of_row s) o)) (slice_outside s.rows i outside))
+  ]
 
   needs_table : (table : List (List ℕ)) → table ≡ map (direct s) (numbers s.rows) → needs_in table ≡ direct s
   needs_table table e = ap needs_in e ∙ (λ i w. needs_at w i)
 
-  numbers_table : (table : List (List ℕ)) → table ≡ map (direct s) (numbers s.rows) → length table ≡ length s.rows
+  pub numbers_table : (table : List (List ℕ)) → table ≡ map (direct s) (numbers s.rows) → length table ≡ length s.rows
   numbers_table table e = ap (λ (t : List (List ℕ)). length t) e ∙ length-map-range_with_len (direct s) 1 (length s.rows)
 
   pub needed_table : (table : List (List ℕ)) (v : ℕ) (all vars : List ℕ) → table ≡ map (direct s) (numbers s.rows) → vars ≡ direct s v

@@ -7,8 +7,7 @@ ghost use Rattle.nb_core.specs.State.{sheet_of};
 
 use nb_history::Resolution;
 use nb_log::{BodyOf, VarRow};
-use nb_syntax::Cell;
-use nb_value::Items;
+use nb_syntax::{Cell, free_names};
 use nb_value::{Pairs, Text, Value};
 use std::alloc::{AllocError, Global};
 
@@ -203,13 +202,4 @@ pub fn direct(
     let found = inputs(alloc, builtins, rows, row)?;
     let vars = variables(alloc, &found)?;
     Ok(vars)
-}
-
-// STUB
-fn free_names(alloc: Global, cell: &Cell) -> Result<Items<Text>, AllocError>
-    ensures { IfOk result (λ names. names ≡ free cell.now) }
-{
-    let _cell = cell;
-    let _alloc = alloc;
-    Err(AllocError)
 }

@@ -237,3 +237,12 @@ pub fn all_ties(
     }
     Ok(all)
 }
+
+/// A variable's ties among those of all.
+pub fn tied_at<'a>(builtins: &Pairs<Value>, rows: &[VarRow], ties: &'a [Ties], v: u32) -> &'a Ties
+    requires number { (0 < v) × (v ≤ length rows.now) }
+    requires ties { ties.now ≡ ties_of_all (sheet_of builtins.now rows.now) }
+    ensures { result.now ≡ ties_of (sheet_of builtins.now rows.now) v }
+{
+    &ties[v as usize - 1]
+}

@@ -5,4 +5,4 @@ use Rattle.nb_core.specs.Scan.{needs_in}
 use Rattle.nb_core.proofs.ties.needed.Given as goal
 
 abbrev pub invariant-loop-round : goal.invariant-loop-round
-invariant-loop-round l = l.all.items ≡ rounds (needs_in l.table) (numbers l.table) l.round l.first
+invariant-loop-round l = l.all.items ≡ rounds (needs_in l.table) (numbers l.table) l._round l.first
