@@ -5,12 +5,11 @@ use Rattle.std.proofs.lemmas.Option.{some_pair_parts, none-some}
 use Rattle.nb_value.specs.declared.value.Value.{Value}
 use Rattle.nb_value.specs.declared.pairs.Field.{Field}
 use Rattle.nb_log.specs.declared.entry.Entry.{Entry}
-use Rattle.nb_log.specs.declared.entry.Entry.TheVariants.{Pending, Left}
 use Rattle.nb_history.specs.Lists.{or_else, option_then, numbers, first_where}
-use Rattle.nb_history.specs.Reading.{Reading, owed}
+use Rattle.nb_history.specs.Reading.{Reading}
 use Rattle.nb_history.specs.Rules.{leaving, ready, may_start, next}
-use Rattle.nb_history.specs.Log.{nothing_yet, after, reading, read_from, Rests, IsQuiet, NothingReady, RestsAfter}
-use Rattle.nb_history.specs.Serial.{least_var, closing, next_of_ready, Todo, Step, first_step, SerialFrom, outer_step, may_load, loader_ticket}
+use Rattle.nb_history.specs.Log.{nothing_yet, after, reading, read_from, Rests, IsQuiet, RestsAfter}
+use Rattle.nb_history.specs.Serial.{least_var, closing, next_of_ready, Todo, first_step, SerialFrom}
 use Rattle.nb_history.specs.Headline.{ShowsScratch, HoldsAtRests}
 use Rattle.nb_history.proofs.Closing.{first_some, closing_none, may_start_cases}
 use Rattle.nb_history.proofs.Histories.{read_append, no_step}
@@ -50,6 +49,7 @@ same_todo r e mid h = go (closing r) refl (next_of_ready r) refl
     from_entry x is =
         let step : first_step [] r nothing ≡ Some (x, nothing) = rw is refl in
         sym (some_pair_parts x e nothing mid (sym step ∙ h)).1
+
     go : (a : Option Entry) → closing r ≡ a → (b : Option Entry) → next_of_ready r ≡ b → mid ≡ nothing
     go (Some x) p b q = from_entry x (ap (λ (o : Option Entry). or_else o (next_of_ready r)) p)
     go None p (Some x) q = from_entry x (ap (λ (o : Option Entry). or_else o (next_of_ready r)) p ∙ q)
@@ -77,8 +77,8 @@ cut (x ∷ old) rest (y ∷ front) back h =
     let heads : x ≡ y = cc in
     let tails : old ++ rest ≡ front ++ back = cc in
     elim (cut old rest front back tails) [
-      inl t ↦ inl (t.0, ap (λ (l : List Entry). x ∷ l) t.1 ∙ ap (λ (z : Entry). z ∷ (front ++ t.0)) heads)
-    | inr t ↦ inr (t.0, ap (λ (z : Entry). z ∷ front) (sym heads) ∙ ap (λ (l : List Entry). x ∷ l) t.1, t.2)
+      | inl t ↦ inl (t.0, ap (λ (l : List Entry). x ∷ l) t.1 ∙ ap (λ (z : Entry). z ∷ (front ++ t.0)) heads)
+      | inr t ↦ inr (t.0, ap (λ (z : Entry). z ∷ front) (sym heads) ∙ ap (λ (l : List Entry). x ∷ l) t.1, t.2)
     ]
 
 module _ (builtins : List (Field Value)) (old : List Entry) (e : Entry) (es : List Entry) (so_far : HoldsAtRests builtins old)
@@ -93,17 +93,17 @@ module _ (builtins : List (Field Value)) (old : List Entry) (e : Entry) (es : Li
   inner_front inner (b ∷ back) is rests =
       let again : old ++ e ∷ inner ≡ (old ++ e ∷ []) ++ inner = sym (append_assoc old (e ∷ []) inner) in
       let reads : reading builtins (old ++ e ∷ inner) ≡ read_from (reading builtins (old ++ e ∷ [])) inner =
-        ap (reading builtins) again ∙ read_append (nothing_yet builtins) (old ++ e ∷ []) inner in
+      ap (reading builtins) again ∙ read_append (nothing_yet builtins) (old ++ e ∷ []) inner in
       absurd (not_inside (reading builtins (old ++ e ∷ [])) inner b back
-        (subst (λ (l : List Entry). SerialFrom [] (reading builtins (old ++ e ∷ [])) nothing l nothing) is serial) (subst Rests reads rests))
+      (subst (λ (l : List Entry). SerialFrom [] (reading builtins (old ++ e ∷ [])) nothing l nothing) is serial) (subst Rests reads rests))
 
   -- an entry and what follows it until nothing is ready: only the whole may rest beside the fronts of before
   pub holds_on : HoldsAtRests builtins (old ++ e ∷ es)
   holds_on front back is rests =
       let P : List Entry → Type 0 = λ l. ShowsScratch builtins l in
       elim (cut old (e ∷ es) front back is) [
-        inl t ↦ so_far front t.0 t.1 rests
-      | inr t ↦ inside t.0 t.1 t.2
+        | inl t ↦ so_far front t.0 t.1 rests
+        | inr t ↦ inside t.0 t.1 t.2
       ]
     where
       inside : (inner : List Entry) → front ≡ old ++ inner → e ∷ es ≡ inner ++ back → ShowsScratch builtins front

@@ -1,5 +1,5 @@
 -- A history in which editors take turns: each editor's lines once, in order.
-use Rattle.std.specs.Prelude.{ℕ, ◌≡◌, ◌==◌, Bool, true, false, cond, List, [], ◌∷◌, Option, Some, None, MatchOption}
+use Rattle.std.specs.Prelude.{ℕ, ◌≡◌, ◌==◌, cond, List, [], ◌∷◌, Option, Some, None, MatchOption}
 use Rattle.nb_value.specs.declared.pairs.Field.{Field}
 use Rattle.nb_history.specs.Reading.{Reading}
 use Rattle.nb_history.specs.Log.{nothing_yet, after, admit, IsLegal, RestsAfter}

@@ -8,7 +8,6 @@ use Rattle.nb_history.specs.Reading.{shown}
 use Rattle.nb_history.specs.Rules.{wanted, scratch}
 use Rattle.nb_history.specs.Log.{reading, IsLegal, RestsAfter}
 use Rattle.nb_history.specs.Serial.{IsSerial}
-use Rattle.nb_history.specs.History.{History, standing}
 
 -- every wanted variable shows what evaluating the present definitions from scratch gives, and nothing exactly where that waits
 abbrev pub ShowsScratch : List (Field Value) → List Entry → Type 0

@@ -1,23 +1,19 @@
 -- What an entry changes, which entries may come, and the logs that are legal.
-use Rattle.std.specs.Prelude.{ℕ, zero, suc, ◌+◌, ◌-◌, ◌≡◌, ◌<◌, Bool, true, false, cond, ◌&&◌, ◌||◌, not, ◌==◌, nat_le, nat_lt, ◌⊎◌, IsTrue, List, [], ◌∷◌, ◌++◌, map, length, replicate, Option, Some, None, is_some}
-use Rattle.std.specs.List.{filter, list_any, list_all, filter_map}
+use Rattle.std.specs.Prelude.{ℕ, ◌+◌, ◌-◌, ◌≡◌, ◌<◌, Bool, true, false, cond, ◌&&◌, ◌||◌, not, ◌==◌, nat_le, List, [], ◌∷◌, ◌++◌, length, replicate, Option, Some, None, is_some}
 use Rattle.nb_log.specs.Printing.{entry_size}
-use Rattle.nb_history.specs.Lists.{nth, put, numbers, Name, has, from_option, option_then, or_else, first_where, numbers_where}
+use Rattle.nb_history.specs.Lists.{nth, put, numbers, Name, from_option, option_then, or_else, first_where}
 use Rattle.std.specs.Str.{bytes_eq}
 use Rattle.nb_value.specs.declared.pairs.Field.{Field}
 use Rattle.nb_eval.specs.Evaluation.{Evaluated}
 use Rattle.nb_eval.specs.declared.given.Ending.{Ending}
-use Rattle.nb_eval.specs.declared.given.Ending.TheVariants.{Paused, Needs, Done, Failed}
+use Rattle.nb_eval.specs.declared.given.Ending.TheVariants.{Done}
 use Rattle.nb_history.specs.Sheet.{Sheet, empty_sheet, refusal, edited_sheet}
-use Rattle.nb_history.specs.Names.{circular, needed}
 use Rattle.nb_history.specs.Reading.{Reading, Start, Footing, Ticket, start_of, shown, owed, is_full}
 use Rattle.nb_history.specs.Rules.{footing, leaving, due, ready, may_start, next, deciding_error, evaluation, generates, body_of}
 use Rattle.nb_value.specs.declared.value.Value.{Value}
-use Rattle.nb_value.specs.declared.outcome.CellError.{CellError}
 use Rattle.nb_value.specs.declared.outcome.Outcome.{Outcome}
 use Rattle.nb_value.specs.declared.outcome.Outcome.TheVariants.{Value as Shows, Error as Fails}
 use Rattle.nb_value.specs.declared.outcome.Answer.{Answer}
-use Rattle.nb_log.specs.declared.event.Target.{Target}
 use Rattle.nb_log.specs.declared.event.Target.TheVariants.{Ticket as ByTicket, Key as ByKey}
 use Rattle.nb_log.specs.declared.event.Event.{Event}
 use Rattle.nb_log.specs.declared.event.Event.TheVariants.{Edit as EditEvent, Frame as FrameEvent, Settle, Rest as RestEvent, Dispose as DisposeEvent}

@@ -1,6 +1,6 @@
 -- What a name stands for, a variable's inputs, and which variables it needs.
-use Rattle.std.specs.Prelude.{ℕ, zero, suc, ◌+◌, ◌≡◌, Bool, true, false, cond, ◌&&◌, ◌||◌, not, ◌==◌, nat_le, List, [], ◌∷◌, ◌++◌, map, length, Option, Some, None, is_some}
-use Rattle.std.specs.List.{filter, list_any, filter_map, position_from}
+use Rattle.std.specs.Prelude.{ℕ, Bool, true, false, cond, ◌&&◌, ◌||◌, List, [], ◌∷◌, map, Option, Some, None, is_some}
+use Rattle.std.specs.List.{list_any, filter_map, position_from}
 use Rattle.std.specs.Str.{bytes_eq}
 use Rattle.nb_history.specs.Lists.{nth, numbers, Name, has, from_option}
 use Rattle.nb_value.specs.declared.pairs.Field.{Field}
@@ -8,7 +8,6 @@ use Rattle.nb_history.specs.Reach.{all_needed}
 use Rattle.nb_syntax.specs.FreeNames.{free}
 use Rattle.nb_history.specs.Sheet.{Sheet, named}
 use Rattle.nb_value.specs.declared.value.Value.{Value}
-use Rattle.nb_syntax.specs.declared.tree.Cell.{Cell}
 use Rattle.nb_log.specs.declared.row.BodyOf.{BodyOf}
 use Rattle.nb_log.specs.declared.row.BodyOf.TheVariants.{Cell as CellBody, Import as ImportBody}
 use Rattle.nb_log.specs.declared.row.VarRow.{VarRow}

@@ -1,5 +1,5 @@
 -- What is written of a log: its entries, the table of what stands, and the number of entries.
-use Rattle.std.specs.Prelude.{ℕ, Bool, List, [], ◌∷◌, ◌++◌, map, length, Option}
+use Rattle.std.specs.Prelude.{ℕ, List, ◌++◌, map, length, Option}
 use Rattle.std.specs.List.{filter}
 use Rattle.nb_value.specs.declared.value.Value.{Value}
 use Rattle.nb_value.specs.declared.pairs.Field.{Field}

@@ -1,5 +1,5 @@
 -- Who needs whom, over numbers, where each has a list of direct needs.
-use Rattle.std.specs.Prelude.{ℕ, zero, suc, ◌≡◌, Bool, true, ◌||◌, List, length}
+use Rattle.std.specs.Prelude.{ℕ, zero, suc, ◌≡◌, true, ◌||◌, List, length}
 use Rattle.std.specs.List.{filter, list_any}
 use Rattle.nb_history.specs.Lists.{has}
 

@@ -1,17 +1,17 @@
 -- Who leaves, who is due, who is ready, and what comes next of a ready variable.
-use Rattle.std.specs.Prelude.{ℕ, zero, suc, ◌+◌, ◌≡◌, Bool, true, false, cond, ◌&&◌, ◌||◌, not, ◌==◌, nat_le, nat_lt, List, [], ◌∷◌, ◌++◌, map, length, Option, Some, None, is_some, slice_get}
-use Rattle.std.specs.List.{filter, list_any, list_all, filter_map}
+use Rattle.std.specs.Prelude.{ℕ, zero, suc, ◌+◌, Bool, true, false, cond, ◌&&◌, ◌||◌, not, ◌==◌, List, [], ◌∷◌, map, length, Option, Some, None, is_some, slice_get}
+use Rattle.std.specs.List.{list_any, list_all}
 use Rattle.std.specs.Fmt.{take_chars}
 use Rattle.nb_value.specs.declared.pairs.Field.{Field}
 use Rattle.nb_value.specs.Fields as fields
-use Rattle.nb_history.specs.Lists.{nth, numbers, Name, has, from_option, option_then, or_else, same_bool, same_numbers}
+use Rattle.nb_history.specs.Lists.{nth, Name, from_option, option_then, or_else, same_bool, same_numbers}
 use Rattle.nb_syntax.specs.Generator.{is_generator}
 use Rattle.nb_eval.specs.Evaluation.{Evaluated, evaluation as cell_evaluation}
 use Rattle.nb_eval.specs.declared.given.Ending.{Ending}
 use Rattle.nb_eval.specs.declared.given.Ending.TheVariants.{Paused, Needs, Done, Failed}
-use Rattle.nb_history.specs.Sheet.{Sheet, named}
-use Rattle.nb_history.specs.Names.{inputs, direct, duplicate, circular, needed, is_used, variable_of}
-use Rattle.nb_history.specs.Reading.{Reading, Start, Footing, start_of, is_idle, shown, owed, renewal}
+use Rattle.nb_history.specs.Sheet.{Sheet}
+use Rattle.nb_history.specs.Names.{inputs, direct, duplicate, circular, needed, is_used}
+use Rattle.nb_history.specs.Reading.{Reading, Start, Footing, start_of, is_idle, shown, renewal}
 use Rattle.nb_value.specs.declared.value.Value.{Value}
 use Rattle.nb_value.specs.declared.value.Value.TheVariants.{Null}
 use Rattle.nb_value.specs.declared.outcome.CellError.{CellError}
@@ -20,7 +20,6 @@ use Rattle.nb_value.specs.declared.outcome.ErrorKind.TheVariants.{NotDefined, De
 use Rattle.nb_value.specs.declared.outcome.Outcome.{Outcome}
 use Rattle.nb_value.specs.declared.outcome.Outcome.TheVariants.{Value as Shows, Error as Fails}
 use Rattle.nb_value.specs.declared.outcome.Answer.{Answer}
-use Rattle.nb_syntax.specs.declared.tree.Cell.{Cell}
 use Rattle.nb_log.specs.declared.row.BodyOf.{BodyOf}
 use Rattle.nb_log.specs.declared.row.BodyOf.TheVariants.{Cell as CellBody, Import as ImportBody}
 use Rattle.nb_log.specs.declared.row.VarRow.{VarRow}

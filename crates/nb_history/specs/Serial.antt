@@ -1,9 +1,9 @@
 -- The serial history of a list of lines.
-use Rattle.std.specs.Prelude.{ℕ, zero, suc, ◌≡◌, Bool, true, false, cond, not, ◌&&◌, List, [], ◌∷◌, ◌++◌, Option, Some, None, is_some}
-use Rattle.std.specs.List.{list_any, list_all}
+use Rattle.std.specs.Prelude.{ℕ, zero, suc, ◌≡◌, Bool, false, cond, not, ◌&&◌, List, [], ◌∷◌, Option, Some, None}
+use Rattle.std.specs.List.{list_any}
 use Rattle.std.specs.Str.{bytes_eq}
 use Rattle.nb_value.specs.declared.pairs.Field.{Field}
-use Rattle.nb_history.specs.Lists.{nth, numbers, Name, has, from_option, option_then, or_else, first_where}
+use Rattle.nb_history.specs.Lists.{nth, numbers, Name, from_option, option_then, or_else, first_where}
 use Rattle.nb_history.specs.Reading.{Reading, Ticket, owed, is_full}
 use Rattle.nb_history.specs.Rules.{leaving, may_start, ready, next}
 use Rattle.nb_history.specs.Log.{nothing_yet, after, read_from, admit, is_live}

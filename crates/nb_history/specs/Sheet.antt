@@ -1,9 +1,8 @@
 -- The sheet: modules, variables and what an edit makes of them.
-use Rattle.std.specs.Prelude.{ℕ, zero, suc, ◌+◌, ◌-◌, ◌<◌, Bool, true, false, cond, ◌&&◌, ◌||◌, not, ◌==◌, nat_lt, nat_le, List, [], ◌∷◌, ◌++◌, map, length, Option, Some, None, is_some}
-use Rattle.nb_history.specs.Lists.{nth, put, numbers, numbers_where, Name, is_name, or_else, from_option}
+use Rattle.std.specs.Prelude.{ℕ, ◌+◌, Bool, true, false, ◌&&◌, not, ◌==◌, nat_le, List, [], ◌∷◌, ◌++◌, length, Option, Some, None, is_some}
+use Rattle.nb_history.specs.Lists.{nth, put, numbers_where, Name, is_name, or_else, from_option}
 use Rattle.nb_value.specs.declared.pairs.Field.{Field}
 use Rattle.nb_value.specs.declared.value.Value.{Value}
-use Rattle.nb_syntax.specs.declared.tree.Cell.{Cell}
 use Rattle.nb_log.specs.declared.row.BodyOf.{BodyOf}
 use Rattle.nb_log.specs.declared.row.BodyOf.TheVariants.{Cell as CellBody, Import as ImportBody}
 use Rattle.nb_log.specs.declared.row.VarRow.{VarRow}

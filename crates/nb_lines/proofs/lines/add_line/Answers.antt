@@ -37,5 +37,5 @@ returns-then-line-gt-LONGEST_LINE c = line_too_long c.args.number c.args.line.no
 pub returns-then-is_blank : goal.returns-then-is_blank
 returns-then-is_blank c =
     let none : told c.args.number (c.args.line.now ∷ []) ≡ [] =
-      passed c.args.number c.args.line.now (omega arith) (omega arith) (sym c.is_blank.ensures ∙ c.if-is_blank.true) in
+    passed c.args.number c.args.line.now (omega arith) (omega arith) (sym c.is_blank.ensures ∙ c.if-is_blank.true) in
     (ap fault_among none, sym (ap (λ ps. c.args.found.now ++ scripts_before ps) none ∙ append-nil c.args.found.now))
