@@ -1,8 +1,8 @@
 -- Lines one after another: what the first adds, and what those behind it add.
-use Rattle.std.proofs.Common.{◌≡◌, ◌<◌, ◌≤◌, ◌+◌, ℕ, suc, List, [], ◌∷◌, ◌++◌, length, take, drop, Option, Some, None, option_map, Bool, true, false, not, cond, find, filter, take_while, refl, sym, ap, ◌∙◌, arith, append_assoc, nat_lt, nat_eq, is_some, ◌||◌, IfNone, IfSome, Result, Ok, Err, IsErrAnd, subst}
+use Rattle.std.proofs.Common.{◌≡◌, ◌<◌, ◌≤◌, ◌+◌, ℕ, suc, List, [], ◌∷◌, ◌++◌, length, take, drop, Option, Some, None, option_map, Bool, true, false, not, cond, find, take_while, refl, sym, ap, ◌∙◌, arith, append_assoc, nat_lt, nat_eq, is_some, ◌||◌, IfNone, IfSome, Result, Ok, Err, IsErrAnd, subst}
 use Rattle.std.proofs.lemmas.Bool.{false≢true, lt-ltb, le-ltb}
 use Rattle.std.proofs.lemmas.List.Splits.{slice_split_first}
-use Rattle.std.specs.List.{slice_split, onto_first, enumerate_from, filter_map, cons_option, prefix_len, position_or_len}
+use Rattle.std.specs.List.{onto_first, filter_map, cons_option, prefix_len, position_or_len}
 use Rattle.nb_log.specs.declared.event.Event.{Event}
 use Rattle.nb_lines.specs.declared.script.ScriptLine.{ScriptLine}
 use Rattle.nb_lines.specs.declared.script.LineFail.{LineFail}

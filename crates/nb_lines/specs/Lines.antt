@@ -1,5 +1,5 @@
 -- The input: its lines, the first one that is not read, and the events of those before it.
-use Rattle.std.specs.Prelude.{◌≡◌, ℕ, ◌==◌, Bool, true, false, not, ◌||◌, List, [], ◌∷◌, ◌++◌, length, map, filter, find, take_while, Option, Some, None, option_map, is_some, Result, Ok, Err, nat_lt, ⊤}
+use Rattle.std.specs.Prelude.{◌≡◌, ℕ, ◌==◌, Bool, not, ◌||◌, List, [], ◌∷◌, ◌++◌, length, map, filter, find, take_while, Option, Some, None, option_map, is_some, Result, Ok, Err, nat_lt, ⊤}
 use Rattle.std.specs.List.{slice_split, enumerate_from, filter_map, list_all}
 use Rattle.nb_log.specs.declared.event.Event.{Event}
 use Rattle.nb_lines.specs.declared.script.ScriptLine.{ScriptLine}

@@ -1,5 +1,5 @@
 -- A line that is not read, for each cause, and one that is.
-use Rattle.std.proofs.Common.{◌≡◌, ◌≤◌, length, sym, ap, ◌∙◌, arith, ◌++◌, Some, None, false}
+use Rattle.std.proofs.Common.{◌≡◌, ◌≤◌, length, sym, ap, ◌∙◌, arith, ◌++◌, Some, false}
 use Rattle.nb_lines.specs.Form.{line_event}
 use Rattle.nb_lines.specs.Lines.{is_blank}
 use Rattle.nb_lines.proofs.LineLemmas.{too_long, too_far, no_event, good_alone}

@@ -1,6 +1,6 @@
 -- A line that is not read, the last line, and a line with others behind it.
-use Rattle.std.proofs.Common.{◌≡◌, ◌+◌, ◌<◌, [], ◌∷◌, length, sym, ap, ◌∙◌, arith, subst, append-nil, IfNone, IfSome}
-use Rattle.nb_lines.specs.Lines.{lines, told, bad_line, scripts}
+use Rattle.std.proofs.Common.{◌≡◌, ◌<◌, [], ◌∷◌, length, sym, ◌∙◌, arith, subst, append-nil, IfNone, IfSome}
+use Rattle.nb_lines.specs.Lines.{lines, bad_line, scripts}
 use Rattle.nb_lines.proofs.LineLemmas.{first_of, stops, passes, later_bad, later_scripts}
 use Rattle.nb_lines.proofs.lines.read_lines.Goals as goal
 
