@@ -1,5 +1,5 @@
 -- A cell is read exactly where the grammar derives it.
-use Rattle.std.proofs.Common.{◌≡◌, ◌↔◌, ℕ, List, [], ◌∷◌, map, Option, Some, None, option_map, option_and_then, refl, sym, ap, ◌∙◌}
+use Rattle.std.proofs.Common.{◌≡◌, ℕ, List, [], ◌∷◌, map, Option, Some, None, option_map, option_and_then, refl, sym, ap, ◌∙◌}
 use Rattle.nb_syntax.specs.declared.tree.Sign.{Sign}
 use Rattle.nb_syntax.specs.declared.tree.Sign.TheVariants as sign
 use Rattle.nb_syntax.specs.declared.tree.Expr.{Expr}
@@ -7,7 +7,7 @@ use Rattle.nb_syntax.specs.declared.tree.Operand.{Operand}
 use Rattle.nb_syntax.specs.declared.tree.Cell.{Cell}
 use Rattle.nb_lines.specs.declared.token.Token.{Token}
 use Rattle.nb_lines.specs.declared.token.Token.TheVariants.{Name, Number, Plus, Minus, Equals}
-use Rattle.nb_lines.specs.Cells.{tokens, atom, operator, operand, operands, sum, sum_of, cell, cell_of_tokens, spelled}
+use Rattle.nb_lines.specs.Cells.{tokens, atom, operator, operands, sum, sum_of, cell, cell_of_tokens, spelled}
 use Rattle.nb_lines.specs.Grammar.{Atom, name, number, Term, Derivation, atom_token, sign_token, terms_tokens, cell_tokens, atom_expr, term_operand, cell_tree, Spells, ReadsByGrammar}
 
 -- ---- what is derived is read

@@ -1,5 +1,5 @@
 -- The text of a cell `name = sum`: the tokens that it is cut into, and the tree that they spell.
-use Rattle.std.specs.Prelude.{ℕ, ◌+◌, ◌*◌, ◌-◌, ◌^◌, ◌==◌, pos, Bool, true, false, not, ◌&&◌, ◌||◌, List, [], ◌∷◌, ◌++◌, length, codes, Option, Some, None, option_map, option_and_then, nat_lt, if◌then◌else◌}
+use Rattle.std.specs.Prelude.{ℕ, ◌+◌, ◌*◌, ◌-◌, ◌^◌, ◌==◌, pos, Bool, false, not, ◌&&◌, ◌||◌, List, [], ◌∷◌, ◌++◌, length, codes, Option, Some, None, option_map, option_and_then, nat_lt, if◌then◌else◌}
 use Rattle.std.specs.List.{list_all, list_any, onto_first}
 use Rattle.std.specs.Str.{bytes_eq}
 use Rattle.nb_syntax.specs.declared.tree.Sign.{Sign}
@@ -7,7 +7,6 @@ use Rattle.nb_syntax.specs.declared.tree.Sign.TheVariants as sign
 use Rattle.nb_syntax.specs.declared.tree.Expr.{Expr}
 use Rattle.nb_syntax.specs.declared.tree.Expr.TheVariants as expr
 use Rattle.nb_syntax.specs.declared.tree.Operand.{Operand}
-use Rattle.nb_syntax.specs.declared.tree.Body.{Body}
 use Rattle.nb_syntax.specs.declared.tree.Body.TheVariants as body
 use Rattle.nb_syntax.specs.declared.tree.Cell.{Cell}
 use Rattle.nb_lines.specs.declared.token.Token.{Token}

@@ -1,5 +1,5 @@
 -- The front of a text is its first piece: a run, or one other character.
-use Rattle.std.proofs.Common.{◌≡◌, ◌<◌, sym, ◌∙◌, arith}
+use Rattle.std.proofs.Common.{◌<◌, sym, ◌∙◌, arith}
 use Rattle.std.specs.List.{prefix_len}
 use Rattle.nb_lines.specs.Cells.{is_in_name}
 use Rattle.nb_lines.proofs.CellLemmas.{first_run, first_other}

@@ -1,5 +1,5 @@
 -- The two ends of the loop.
-use Rattle.std.proofs.Common.{◌≡◌, ◌<◌, length, arith, sym, ap, ◌∙◌, Some, None, cond, nat_eq, true}
+use Rattle.std.proofs.Common.{◌≡◌, ◌<◌, length, arith, sym, ap, ◌∙◌, Some, None, cond}
 use Rattle.std.proofs.lemmas.Bool.{eqb-true}
 use Rattle.nb_value.proofs.JsonLaws.{continues_all}
 use Rattle.nb_lines.specs.Cells.{pieces, tokens}

@@ -1,5 +1,5 @@
 -- The first line ends at the first line feed, or with the input.
-use Rattle.std.proofs.Common.{◌≡◌, ◌<◌, length, sym, ◌∙◌, arith, ap, take, nat_eq, ◌∷◌, []}
+use Rattle.std.proofs.Common.{◌<◌, length, sym, ◌∙◌, arith, ap, nat_eq, ◌∷◌, []}
 use Rattle.std.proofs.lemmas.List.{take_all}
 use Rattle.std.specs.List.{position_or_len}
 use Rattle.nb_lines.proofs.LineLemmas.{lines-first, lines-last}

@@ -1,5 +1,5 @@
 -- A number that grows too large, and one whose digits were all taken.
-use Rattle.std.proofs.Common.{◌≡◌, ◌≤◌, ◌*◌, ◌^◌, ◌<◌, length, None, Some, option_map, pos, sym, ap, ◌∙◌, arith}
+use Rattle.std.proofs.Common.{◌≤◌, ◌*◌, ◌^◌, ◌<◌, length, option_map, pos, sym, ap, ◌∙◌, arith}
 use Rattle.nb_lines.proofs.CellLemmas.{too_many_tens, all_digits}
 use Rattle.nb_lines.proofs.words.numeral_of.Goals as goal
 
