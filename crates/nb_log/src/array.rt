@@ -6,6 +6,7 @@ ghost use Rattle.nb_value.specs.declared.value.Value.TheVariants as V;
 ghost use Rattle.nb_log.specs.Printing.{number, text_or_null, answer_items, error_items, outcome_items, entry_value, table_value, done_value};
 ghost use Rattle.nb_log.specs.Tickets.{HasSmallTicket, HasSmallTickets};
 
+use crate::edit::Edit;
 use crate::entry::{Entry, Refusal};
 use crate::event::Event;
 use crate::names::{kind_name, refusal_name, refusal_number};
@@ -19,65 +20,28 @@ pub fn entry_value(alloc: Global, entry: &Entry) -> Result<Value, AllocError>
     ensures { IfOk result (λ v. v ≡ entry_value entry.now) }
 {
     match entry {
-        Entry::Edit { editor, edit } => with_value(
-            alloc,
-            "edit",
-            *editor as u64,
-            edit_value(alloc, edit)?,
-        ),
+        Entry::Edit { editor, edit } => edit_array(alloc, *editor, edit),
         Entry::Frame { editor } => array(alloc, "frame", *editor as u64),
         Entry::Settled {
             editor,
             ticket,
             answer,
-        } => {
-            let items = two_numbers(alloc, "settled", *editor as u64, *ticket)?;
-            with_answer(alloc, items, answer)
-        }
-        Entry::Late { editor, ticket } => {
-            Ok(Value::List(two_numbers(alloc, "late", *editor as u64, *ticket)?))
-        }
-        Entry::Loaded { ticket, answer } => with_answer(
-            alloc,
-            one_number(alloc, "loaded", *ticket)?,
-            answer,
-        ),
+        } => settled_array(alloc, *editor, *ticket, answer),
+        Entry::Late { editor, ticket } => late_array(alloc, *editor, *ticket),
+        Entry::Loaded { ticket, answer } => loaded_array(alloc, *ticket, answer),
         Entry::Refused {
             editor,
             reason,
             event,
-        } => refused_value(alloc, *editor, *reason, event),
+        } => refused_array(alloc, *editor, *reason, event),
         Entry::Rest { editor } => array(alloc, "rest", *editor as u64),
         Entry::Dispose { editor } => array(alloc, "dispose", *editor as u64),
-        Entry::Pending { var, disposed } => {
-            with_value(
-                alloc,
-                "pending",
-                *var as u64,
-                Value::List(disposed.copy(alloc)?),
-            )
-        }
-        Entry::Fulfilled { var, value } => with_value(
-            alloc,
-            "fulfilled",
-            *var as u64,
-            value.copy(alloc)?,
-        ),
-        Entry::Rejected { var, error } => with_error(
-            alloc,
-            one_number(alloc, "rejected", *var as u64)?,
-            error,
-        ),
-        Entry::Asked { var, ticket, key } => asked_value(alloc, *var, *ticket, key),
+        Entry::Pending { var, disposed } => list_array(alloc, "pending", *var, disposed),
+        Entry::Fulfilled { var, value } => fulfilled_array(alloc, *var, value),
+        Entry::Rejected { var, error } => rejected_array(alloc, *var, error),
+        Entry::Asked { var, ticket, key } => asked_array(alloc, *var, *ticket, key),
         Entry::Ended { var } => array(alloc, "ended", *var as u64),
-        Entry::Left { var, disposed } => {
-            with_value(
-                alloc,
-                "left",
-                *var as u64,
-                Value::List(disposed.copy(alloc)?),
-            )
-        }
+        Entry::Left { var, disposed } => list_array(alloc, "left", *var, disposed),
     }
 }
 
@@ -163,7 +127,65 @@ fn name_value(alloc: Global, name: Option<&Text>) -> Result<Value, AllocError>
     }
 }
 
-fn refused_value(
+fn edit_array(alloc: Global, editor: u8, edit: &Edit) -> Result<Value, AllocError>
+    ensures { IfOk result (λ v. v ≡ entry_value (Entry.Edit editor edit.now)) }
+{
+    let object = edit_value(alloc, edit)?;
+    with_value(alloc, "edit", editor as u64, object)
+}
+
+fn settled_array(
+    alloc: Global,
+    editor: u8,
+    ticket: u64,
+    answer: &Answer,
+) -> Result<Value, AllocError>
+    requires { ticket < 2 ^ 63 }
+    ensures { IfOk result (λ v. v ≡ entry_value (Entry.Settled editor ticket answer.now)) }
+{
+    let items = two_numbers(alloc, "settled", editor as u64, ticket)?;
+    with_answer(alloc, items, answer)
+}
+
+fn late_array(alloc: Global, editor: u8, ticket: u64) -> Result<Value, AllocError>
+    requires { ticket < 2 ^ 63 }
+    ensures { IfOk result (λ v. v ≡ entry_value (Entry.Late editor ticket)) }
+{
+    let items = two_numbers(alloc, "late", editor as u64, ticket)?;
+    Ok(Value::List(items))
+}
+
+fn loaded_array(alloc: Global, ticket: u64, answer: &Answer) -> Result<Value, AllocError>
+    requires { ticket < 2 ^ 63 }
+    ensures { IfOk result (λ v. v ≡ entry_value (Entry.Loaded ticket answer.now)) }
+{
+    let items = one_number(alloc, "loaded", ticket)?;
+    with_answer(alloc, items, answer)
+}
+
+// A name, a variable and a list.
+fn list_array(alloc: Global, name: &str, var: u32, list: &Items<Value>) -> Result<Value, AllocError>
+    ensures { IfOk result (λ v. v ≡ V.List (V.Text name.now ∷ number var ∷ V.List list.now ∷ [])) }
+{
+    let copy = list.copy(alloc)?;
+    with_value(alloc, name, var as u64, Value::List(copy))
+}
+
+fn fulfilled_array(alloc: Global, var: u32, value: &Value) -> Result<Value, AllocError>
+    ensures { IfOk result (λ v. v ≡ entry_value (Entry.Fulfilled var value.now)) }
+{
+    let copy = value.copy(alloc)?;
+    with_value(alloc, "fulfilled", var as u64, copy)
+}
+
+fn rejected_array(alloc: Global, var: u32, error: &CellError) -> Result<Value, AllocError>
+    ensures { IfOk result (λ v. v ≡ entry_value (Entry.Rejected var error.now)) }
+{
+    let items = one_number(alloc, "rejected", var as u64)?;
+    with_error(alloc, items, error)
+}
+
+fn refused_array(
     alloc: Global,
     editor: u8,
     reason: Refusal,
@@ -179,7 +201,7 @@ fn refused_value(
     Ok(Value::List(items))
 }
 
-fn asked_value(alloc: Global, var: u32, ticket: u64, key: &Text) -> Result<Value, AllocError>
+fn asked_array(alloc: Global, var: u32, ticket: u64, key: &Text) -> Result<Value, AllocError>
     requires { ticket < 2 ^ 63 }
     ensures { IfOk result (λ v. v ≡ entry_value (Entry.Asked var ticket key.now)) }
 {

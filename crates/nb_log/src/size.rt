@@ -30,42 +30,23 @@ pub fn entry_size(entry: &Entry) -> u64
     ensures { result ≡ min (entry_size entry.now) (2 ^ 64 - 1) }
 {
     match entry {
-        Entry::Edit { editor: _, edit } => array_size("edit", 1, edit_size(edit)),
-        Entry::Frame { editor: _ } => array_size("frame", 1, 0),
-        Entry::Settled {
-            editor: _,
-            ticket: _,
-            answer,
-        } => array_size("settled", 2, answer_size(answer)),
-        Entry::Late {
-            editor: _,
-            ticket: _,
-        } => array_size("late", 2, 0),
-        Entry::Loaded { ticket: _, answer } => array_size("loaded", 1, answer_size(answer)),
-        Entry::Refused {
-            editor: _,
-            reason,
-            event,
-        } => {
+        Entry::Edit { edit, .. } => array_size("edit", 1, edit_size(edit)),
+        Entry::Frame { .. } => array_size("frame", 1, 0),
+        Entry::Settled { answer, .. } => array_size("settled", 2, answer_size(answer)),
+        Entry::Late { .. } => array_size("late", 2, 0),
+        Entry::Loaded { answer, .. } => array_size("loaded", 1, answer_size(answer)),
+        Entry::Refused { reason, event, .. } => {
             let name = refusal_name(*reason).len() as u64 + 1;
             array_size("refused", 2, event_size(event).saturating_add(name))
         }
-        Entry::Rest { editor: _ } => array_size("rest", 1, 0),
-        Entry::Dispose { editor: _ } => array_size("dispose", 1, 0),
-        Entry::Pending { var: _, disposed } => array_size(
-            "pending",
-            1,
-            list_size(disposed.as_slice()),
-        ),
-        Entry::Fulfilled { var: _, value } => array_size("fulfilled", 1, value.size()),
-        Entry::Rejected { var: _, error } => array_size("rejected", 1, error_size(error)),
-        Entry::Asked {
-            var: _,
-            ticket: _,
-            key,
-        } => array_size("asked", 2, text_size(key)),
-        Entry::Ended { var: _ } => array_size("ended", 1, 0),
-        Entry::Left { var: _, disposed } => array_size("left", 1, list_size(disposed.as_slice())),
+        Entry::Rest { .. } => array_size("rest", 1, 0),
+        Entry::Dispose { .. } => array_size("dispose", 1, 0),
+        Entry::Pending { disposed, .. } => array_size("pending", 1, list_size(disposed.as_slice())),
+        Entry::Fulfilled { value, .. } => array_size("fulfilled", 1, value.size()),
+        Entry::Rejected { error, .. } => array_size("rejected", 1, error_size(error)),
+        Entry::Asked { key, .. } => array_size("asked", 2, text_size(key)),
+        Entry::Ended { .. } => array_size("ended", 1, 0),
+        Entry::Left { disposed, .. } => array_size("left", 1, list_size(disposed.as_slice())),
     }
 }
 

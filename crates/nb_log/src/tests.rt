@@ -4,20 +4,19 @@ ghost use Rattle.nb_log.specs.Tickets.{HasSmallTickets};
 
 use crate::array::{done_value, table_value};
 use crate::edit::Edit;
-use crate::entry::{Entry, Refusal};
-use crate::event::{Event, Target};
+use crate::entry::Entry;
 use crate::lines::{push_entries, push_line};
 use crate::log::Log;
 use crate::size::entry_size;
 use nb_syntax::{Body, Cell, Expr, Operand, Sign};
-use nb_value::{Answer, Boxed, Bytes, CellError, ErrorKind, Items, Outcome, Text, Tree, Value};
+use nb_value::{Boxed, Bytes, CellError, ErrorKind, Items, Outcome, Text, Tree, Value};
 use std::alloc::{AllocError, Global};
 use std::test::Fail;
 
 const LINES: &str =
-    "[\"edit\",0,{\"cell\":\"x = 1 + 2\",\"do\":\"cell\",\"module\":0,\"observed\":true}]\n[\"pending\",1,[]]\n[\"fulfilled\",1,3]\n[\"rejected\",1,\"NotDefined\",\"x\",null]\n[\"refused\",2,21,\"LogFull\",{\"do\":\"settle\",\"error\":\"e\",\"ticket\":7}]\n";
+    "[\"edit\",0,{\"cell\":\"x = 1 + 2\",\"do\":\"cell\",\"module\":0,\"observed\":true}]\n[\"pending\",1,[]]\n[\"fulfilled\",1,3]\n[\"rejected\",1,\"NotDefined\",\"x\",null]\n";
 
-const TABLE: &str = "[\"value\",1,\"x\",\"fulfilled\",3]\n[\"done\",6]\n";
+const TABLE: &str = "[\"value\",1,\"x\",\"fulfilled\",3]\n[\"done\",5]\n";
 
 // x = 1 + 2
 fn cell(alloc: Global) -> Result<Cell, AllocError> {
@@ -33,14 +32,6 @@ fn cell(alloc: Global) -> Result<Cell, AllocError> {
     })
 }
 
-fn rejected(alloc: Global) -> Result<CellError, AllocError> {
-    Ok(CellError {
-        kind: ErrorKind::NotDefined,
-        detail: Text::from_str(alloc, "x")?,
-        via: None,
-    })
-}
-
 fn add(all: &mut Vec<Entry>, entry: Entry) -> Result<(), AllocError>
     requires small { HasSmallTickets entry }
     requires all_small { All HasSmallTickets all.old.items }
@@ -50,44 +41,54 @@ fn add(all: &mut Vec<Entry>, entry: Entry) -> Result<(), AllocError>
     Ok(())
 }
 
-fn edit(alloc: Global) -> Result<Edit, AllocError> {
-    Ok(Edit::AddCell {
+fn edited(alloc: Global) -> Result<Entry, AllocError>
+    ensures { IfOk result HasSmallTickets }
+{
+    let edit = Edit::AddCell {
         module: 0,
         cell: cell(alloc)?,
         observed: true,
-    })
+    };
+    Ok(Entry::Edit { editor: 0, edit })
+}
+
+fn pending(alloc: Global) -> Entry
+    ensures { HasSmallTickets result }
+{
+    Entry::Pending {
+        var: 1,
+        disposed: Items::new(alloc),
+    }
+}
+
+fn fulfilled() -> Entry
+    ensures { HasSmallTickets result }
+{
+    Entry::Fulfilled {
+        var: 1,
+        value: Value::Int(3),
+    }
+}
+
+fn rejected(alloc: Global) -> Result<Entry, AllocError>
+    ensures { IfOk result HasSmallTickets }
+{
+    let error = CellError {
+        kind: ErrorKind::NotDefined,
+        detail: Text::from_str(alloc, "x")?,
+        via: None,
+    };
+    Ok(Entry::Rejected { var: 1, error })
 }
 
 fn entries(alloc: Global) -> Result<Vec<Entry>, AllocError>
     ensures { IfOk result (λ v. All HasSmallTickets v.items) }
 {
     let mut all = Vec::new(alloc);
-    let edit = edit(alloc)?;
-    let disposed = Items::new(alloc);
-    let error = rejected(alloc)?;
-    let event = Event::Settle {
-        target: Target::Ticket(7),
-        answer: Answer::Failure(Text::from_str(alloc, "e")?),
-    };
-    let reason = Refusal::LogFull;
-    add(&mut all, Entry::Edit { editor: 0, edit })?;
-    add(&mut all, Entry::Pending { var: 1, disposed })?;
-    add(
-        &mut all,
-        Entry::Fulfilled {
-            var: 1,
-            value: Value::Int(3),
-        },
-    )?;
-    add(&mut all, Entry::Rejected { var: 1, error })?;
-    add(
-        &mut all,
-        Entry::Refused {
-            editor: 2,
-            reason,
-            event,
-        },
-    )?;
+    add(&mut all, edited(alloc)?)?;
+    add(&mut all, pending(alloc))?;
+    add(&mut all, fulfilled())?;
+    add(&mut all, rejected(alloc)?)?;
     Ok(all)
 }
 
@@ -117,10 +118,10 @@ fn keeps_and_prints(rt: HostRuntime) -> Result<(), Fail> {
     assert!(rt; has_lines(alloc, &log, LINES)?);
     log.reserve(1)?;
     log.push(Entry::Frame { editor: 1 });
-    assert_eq!(rt; log.len(), 6);
-    assert_eq!(rt; log.size(), 49 + 11 + 13 + 25 + 46 + 8);
+    assert_eq!(rt; log.len(), 5);
+    assert_eq!(rt; log.size(), 49 + 11 + 13 + 25 + 8);
     assert!(rt; log.get(0).is_none());
-    assert!(rt; matches!(log.get(6), Some(Entry::Frame { editor: 1 })));
+    assert!(rt; matches!(log.get(5), Some(Entry::Frame { editor: 1 })));
     assert_eq!(rt; log.get(2).map_or(0, |entry| entry_size(entry)), 11);
     Ok(())
 }
@@ -136,7 +137,7 @@ fn prints_the_table(rt: HostRuntime) -> Result<(), Fail> {
         &mut out,
         &table_value(alloc, 1, Some(&name), Some(&shown))?,
     )?;
-    push_line(alloc, &mut out, &done_value(alloc, 6)?)?;
+    push_line(alloc, &mut out, &done_value(alloc, 5)?)?;
     assert!(rt; out.as_slice() == TABLE.as_bytes());
     assert!(rt; cell(alloc)?.copy(alloc)?.same(&cell(alloc)?));
     Ok(())
