@@ -1,5 +1,5 @@
 -- The evaluation of a cell.
-use Rattle.std.specs.Prelude.{ℕ, ◌+◌, List, [], ◌∷◌, length, Option, Some, None, Result, Ok, Err}
+use Rattle.std.specs.Prelude.{ℕ, List, [], ◌∷◌, length, Option, Some, None, Result, Ok, Err}
 use Rattle.nb_value.specs.declared.value.Value.{Value}
 use Rattle.nb_value.specs.declared.value.Value.TheVariants as V
 use Rattle.nb_value.specs.declared.pairs.Field.{Field}
@@ -12,13 +12,13 @@ use Rattle.nb_syntax.specs.declared.tree.Body.{Body}
 use Rattle.nb_syntax.specs.declared.tree.Body.TheVariants as body
 use Rattle.nb_syntax.specs.declared.tree.Cell.{Cell}
 use Rattle.nb_eval.specs.declared.given.Ending.{Ending}
-use Rattle.nb_eval.specs.declared.given.Ending.TheVariants.{Paused, Needs, Done, Failed}
+use Rattle.nb_eval.specs.declared.given.Ending.TheVariants.{Paused, Done, Failed}
 use Rattle.nb_eval.specs.declared.given.RunEnd.{RunEnd}
 use Rattle.nb_eval.specs.declared.given.Segment.{Segment}
 use Rattle.nb_eval.specs.declared.stop.Stop.{Stop}
 use Rattle.nb_eval.specs.declared.stop.Stop.TheVariants as stop
 use Rattle.nb_eval.specs.declared.stop.State.{State}
-use Rattle.nb_eval.specs.Run.{Run, Out, ◌>>=◌, pure, done, read, operated}
+use Rattle.nb_eval.specs.Run.{Run, ◌>>=◌, pure, done, read, operated}
 
 -- a first value, and the operators that are applied after it, from left to right
 abbrev pub sum_from : Value → List (Sign × Run Value) → Run Value

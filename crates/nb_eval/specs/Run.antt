@@ -1,5 +1,5 @@
 -- The steps of which evaluation is made: each hands on the state, or stops.
-use Rattle.std.specs.Prelude.{◌≡◌, ◌≢◌, ℕ, ◌+◌, ◌-◌, Bool, true, false, List, [], ◌∷◌, ◌++◌, nat_lt, codes, Option, Some, None, Result, Ok, Err, if◌then◌else◌, ℤ, pos, negsuc, ◌+ℤ◌, ◌-ℤ◌}
+use Rattle.std.specs.Prelude.{◌≡◌, ◌≢◌, ℕ, ◌+◌, ◌-◌, Bool, List, [], ◌++◌, nat_lt, codes, Option, Some, None, Result, Ok, Err, if◌then◌else◌, ℤ, pos, negsuc, ◌+ℤ◌, ◌-ℤ◌}
 use Rattle.nb_value.specs.declared.value.Value.{Value, out-Value}
 use Rattle.nb_value.specs.declared.value.Value.TheOpen as value
 use Rattle.nb_value.specs.declared.value.Value.TheVariants as V
@@ -26,7 +26,6 @@ after (Ok a) s f = f a s
 after (Err e) s f = (Err e, s)
 
 infixl 10 ◌>>=◌
-
 -- one step and then another, which is given the first one's value; a stop ends both
 abbrev pub ◌>>=◌ : {A B : Type 0} → Run A → (A → Run B) → Run B
 p >>= f = λ s. after (p s).0 (p s).1 f
@@ -98,3 +97,7 @@ operated sign a b = applied sign a b >>= done
 -- what a function of the evaluator answers, where memory didn't run out
 abbrev pub Meets : {A : Type 0} → Result A Stop → State → Out A → Type 0
 Meets result new out = result ≢ Err Memory → out ≡ (result, new)
+
+-- the same of a step that leaves the state as it is
+abbrev pub Gives : {A : Type 0} → Result A Stop → Run A → Type 0
+Gives result p = (s : State) → Meets result s (p s)

@@ -1,3 +1,4 @@
+use crate::finished::Finished;
 use crate::given::Segment;
 use nb_value::Outcome;
 
@@ -14,4 +15,5 @@ pub enum Work {
 #[derive(Debug, Drop)]
 pub enum WorkDone {
     Direct(Outcome),
+    Ran(Finished),
 }
