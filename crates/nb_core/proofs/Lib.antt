@@ -2,3 +2,8 @@ pub mod Cells
 pub mod States
 pub mod Locals
 pub mod LocalAdds
+pub mod Begins
+pub mod Closings
+pub mod Completes
+pub mod Adds
+pub mod Rest
