@@ -7,3 +7,4 @@ pub mod Closings
 pub mod Completes
 pub mod Adds
 pub mod Rest
+pub mod Kept
