@@ -8,3 +8,5 @@ pub mod Completes
 pub mod Adds
 pub mod Rest
 pub mod Kept
+pub mod Cores
+pub mod Runs

@@ -1,5 +1,5 @@
 -- What the calls of the core do, over the history that it keeps.
-use Rattle.std.specs.Prelude.{ℕ, ◌+◌, ◌≡◌, Bool, true, false, List, [], ◌∷◌, ◌++◌, length, Option, Some, None}
+use Rattle.std.specs.Prelude.{ℕ, ◌+◌, ◌≡◌, ◌<◌, Bool, true, false, List, [], ◌∷◌, ◌++◌, length, Option, Some, None}
 use Rattle.std.specs.List.{filter}
 use Rattle.nb_value.specs.declared.value.Value.{Value}
 use Rattle.nb_value.specs.declared.value.Value.TheVariants.{Null}
@@ -9,6 +9,9 @@ use Rattle.nb_value.specs.declared.outcome.Outcome.TheVariants.{Value as Shows, 
 use Rattle.nb_eval.specs.declared.given.Segment.{Segment}
 use Rattle.nb_eval.specs.declared.work.Work.{Work}
 use Rattle.nb_eval.specs.declared.work.Work.TheVariants.{Direct, Run}
+use Rattle.nb_eval.specs.declared.work.WorkDone.{WorkDone}
+use Rattle.nb_eval.specs.declared.work.WorkDone.TheVariants.{Direct as DirectDone, Ran}
+use Rattle.nb_eval.specs.Work.{IsOf}
 use Rattle.nb_log.specs.declared.row.BodyOf.{BodyOf}
 use Rattle.nb_log.specs.declared.row.BodyOf.TheVariants.{Cell as CellBody, Import as ImportBody}
 use Rattle.nb_log.specs.declared.edit.Edit.{Edit}
@@ -19,10 +22,13 @@ use Rattle.nb_log.specs.declared.entry.Entry.{Entry}
 use Rattle.nb_history.specs.Lists.{Name, from_option, numbers}
 use Rattle.nb_history.specs.Names.{inputs}
 use Rattle.nb_history.specs.Reading.{Reading, Start, start_of, shown}
-use Rattle.nb_history.specs.Rules.{deciding_error, body_of, values_given, first_value, answers_of, pulls_of, ready, is_running}
+use Rattle.nb_history.specs.Rules.{deciding_error, body_of, values_given, first_value, answers_of, pulls_of, ready, is_running, next}
 use Rattle.nb_history.specs.Log.{after, read_from}
 use Rattle.nb_history.specs.Serial.{Closes, Todo, SerialFrom, closing, least_var}
 use Rattle.nb_history.specs.History.{History, standing}
+use Rattle.nb_core.specs.declared.placed.Placed.{Placed}
+use Rattle.nb_core.specs.declared.placed.Placed.TheVariants.{Shown, Stale}
+use Rattle.nb_core.specs.State.{ending_outcome}
 
 -- the event of an added observed cell of module 0
 abbrev pub IsAddedCell : Event → Type 0
@@ -66,3 +72,21 @@ pub record Settles (old new : History) : Type 0 where
 -- how many variables run
 abbrev pub running : History → ℕ
 running h = length (filter (is_running (standing h)) (numbers (standing h).sheet.rows))
+
+-- ---- work that was done
+
+-- the outcome that it gives
+abbrev pub done_outcome : WorkDone → Outcome
+done_outcome (DirectDone o) = o
+done_outcome (Ran f) = ending_outcome f.result.ending
+
+-- the start is v's present one, v is ready, and this was done of its work
+abbrev pub IsPresent : Reading → ℕ → ℕ → WorkDone → Type 0
+IsPresent r v start done = (start ≡ start_number r v) × (ready r v ≡ true) × IsOf (work_of r v) done
+
+-- v's next entry is gained, or the work isn't of v's present start and nothing changed
+abbrev pub Places : History → History → ℕ → ℕ → WorkDone → Placed → Type 0
+Places old new v start done (Shown place) =
+    IsPresent (standing old) v start done × (place ≡ length old.log + 1) × Gains old (next (standing old) v) new × (running new < running old)
+Places old new v start done (Stale held now) =
+    (IsPresent (standing old) v start done → ⊥) × (held ≡ start) × (now ≡ start_number (standing old) v) × (new ≡ old)
