@@ -10,3 +10,4 @@ pub mod Rest
 pub mod Kept
 pub mod Cores
 pub mod Runs
+pub mod Works
