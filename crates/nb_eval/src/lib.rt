@@ -9,6 +9,8 @@ mod finished;
 mod given;
 mod steps;
 mod stop;
+#[cfg(test)]
+mod tests;
 mod work;
 
 pub use done::is_work_of;

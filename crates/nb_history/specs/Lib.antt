@@ -9,3 +9,4 @@ pub mod Serial
 pub mod Edited
 pub mod Print
 pub mod History
+pub mod Headline

@@ -21,24 +21,65 @@ pub enum Refusal {
 /// An entry of the log. Its place is its position, counted from 1.
 #[derive(Debug, Drop)]
 pub enum Entry {
-    Edit { editor: u8, edit: Edit },
-    Frame { editor: u8 },
-    Settled { editor: u8, ticket: u64, answer: Answer },
+    Edit {
+        editor: u8,
+        edit: Edit,
+    },
+    Frame {
+        editor: u8,
+    },
+    Settled {
+        editor: u8,
+        ticket: u64,
+        answer: Answer,
+    },
     /// A settlement of a ticket that isn't live any more.
-    Late { editor: u8, ticket: u64 },
+    Late {
+        editor: u8,
+        ticket: u64,
+    },
     /// The answer of a data loader.
-    Loaded { ticket: u64, answer: Answer },
-    Refused { editor: u8, reason: Refusal, event: Event },
-    Rest { editor: u8 },
-    Dispose { editor: u8 },
+    Loaded {
+        ticket: u64,
+        answer: Answer,
+    },
+    Refused {
+        editor: u8,
+        reason: Refusal,
+        event: Event,
+    },
+    Rest {
+        editor: u8,
+    },
+    Dispose {
+        editor: u8,
+    },
     /// A variable starts. `disposed` has the cleanups that its last start owed.
-    Pending { var: u32, disposed: Items<Value> },
-    Fulfilled { var: u32, value: Value },
-    Rejected { var: u32, error: CellError },
+    Pending {
+        var: u32,
+        disposed: Items<Value>,
+    },
+    Fulfilled {
+        var: u32,
+        value: Value,
+    },
+    Rejected {
+        var: u32,
+        error: CellError,
+    },
     /// A variable waits for the answer to a fetch.
-    Asked { var: u32, ticket: u64, key: Text },
+    Asked {
+        var: u32,
+        ticket: u64,
+        key: Text,
+    },
     /// A generator has no further value.
-    Ended { var: u32 },
+    Ended {
+        var: u32,
+    },
     /// A variable isn't wanted any more.
-    Left { var: u32, disposed: Items<Value> },
+    Left {
+        var: u32,
+        disposed: Items<Value>,
+    },
 }

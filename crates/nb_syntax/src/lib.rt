@@ -2,6 +2,8 @@
 #![tactic(auto)]
 
 mod copy;
+mod length;
 mod tree;
 
+pub use length::printed_len;
 pub use tree::{Body, Cell, Expr, Operand, Sign};

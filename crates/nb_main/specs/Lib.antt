@@ -1,0 +1,5 @@
+pub mod Command
+pub mod Outcome
+pub mod Answers
+pub mod Causes
+pub mod Notes
