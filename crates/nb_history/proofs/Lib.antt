@@ -5,3 +5,6 @@ pub mod Closing
 pub mod Histories
 pub mod Scratches
 pub mod Leaving
+pub mod Cells
+pub mod Walks
+pub mod Rows
