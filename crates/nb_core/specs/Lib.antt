@@ -1,2 +1,4 @@
+pub mod Codes
 pub mod Core
+pub mod Scan
 pub mod State

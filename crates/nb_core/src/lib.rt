@@ -1,6 +1,10 @@
 //! The machine of a notebook: it takes events and outcomes, and keeps the log.
 #![tactic(auto)]
 
+mod closing;
+mod names;
 mod placed;
+mod starts;
+mod ties;
 
 pub use placed::{Placed, Shown};

@@ -1,0 +1,7 @@
+use Rattle.std.proofs.Common.{◌≡◌, take}
+use Rattle.nb_core.specs.Scan.{found_in}
+use Rattle.nb_core.proofs.names.by_variables.Given as goal
+
+-- what was found so far
+abbrev pub invariant-loop-i : goal.invariant-loop-i
+invariant-loop-i l = l.found ≡ found_in l.within l.name (take l.i l.rows)
