@@ -1,3 +1,5 @@
 pub mod Printing
 pub mod Size
 pub mod Written
+pub mod Tickets
+pub mod Objects

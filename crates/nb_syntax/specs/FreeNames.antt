@@ -1,7 +1,6 @@
 -- The free names of a cell.
-use Rattle.std.specs.Prelude.{ℕ, Bool, true, false, ◌||◌, List, [], ◌∷◌, ◌++◌, if◌then◌else◌}
+use Rattle.std.specs.Prelude.{ℕ, Bool, false, ◌||◌, List, [], ◌∷◌, ◌++◌, if◌then◌else◌}
 use Rattle.std.specs.Str.{bytes_eq}
-use Rattle.nb_syntax.specs.declared.tree.Sign.{Sign}
 use Rattle.nb_syntax.specs.declared.tree.Expr.{Expr, fold-Expr}
 use Rattle.nb_syntax.specs.declared.tree.Expr.TheOpen as layer
 use Rattle.nb_syntax.specs.declared.tree.Operand.{Operand, fold-Operand}

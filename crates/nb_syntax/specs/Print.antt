@@ -1,5 +1,5 @@
 -- The text of a cell.
-use Rattle.std.specs.Prelude.{ℕ, Bool, true, false, List, [], ◌∷◌, ◌++◌, codes, nat_lt, if◌then◌else◌, Option, Some, None}
+use Rattle.std.specs.Prelude.{ℕ, List, [], ◌∷◌, ◌++◌, codes, nat_lt, if◌then◌else◌, Option, Some, None}
 use Rattle.std.specs.Fmt.{signed_decimal}
 use Rattle.nb_syntax.specs.declared.tree.Expr.{Expr, fold-Expr}
 use Rattle.nb_syntax.specs.declared.tree.Expr.TheOpen as layer

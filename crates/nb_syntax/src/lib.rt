@@ -2,8 +2,14 @@
 #![tactic(auto)]
 
 mod copy;
+mod free;
 mod length;
+mod printing;
+#[cfg(test)]
+mod tests;
 mod tree;
 
+pub use free::{Names, free_names};
 pub use length::printed_len;
+pub use printing::print;
 pub use tree::{Body, Cell, Expr, Operand, Sign};
