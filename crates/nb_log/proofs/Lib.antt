@@ -1,2 +1,1 @@
 pub mod SizeLemmas
-pub mod ObjectLemmas

@@ -1,5 +1,3 @@
 pub mod Printing
 pub mod Size
 pub mod Written
-pub mod Tickets
-pub mod Objects
