@@ -19,7 +19,7 @@ use Rattle.nb_history.proofs.Reaches.{has_head, has_tail, needed_within, passing
 use Rattle.nb_history.proofs.Direct.{direct_within}
 use Rattle.nb_history.proofs.Closing.{range_has, number_has, has_number, nth_put_same, nth_put_other, length_put, nth_as_long, first_some, closing_pending, closing_none, quiet_from_none, Settled, settled_pending, is_since, may_start_cases}
 use Rattle.nb_history.proofs.Histories.{read_append, legal_append, ClosesTo, closes_push, closes_end}
-use Rattle.nb_core.specs.State.{at as at_rows, sheet_of, reading_of, may_begin, begun, is_cell, IsPlain, IsBare, IsState, IsLocal}
+use Rattle.nb_core.specs.State.{at as at_rows, sheet_of, reading_of, may_begin, begun, is_cell, IsPlain, IsBare, IsState, IsLocal, IsClosed}
 use Rattle.nb_core.proofs.Cells.{cell_is_some}
 use Rattle.nb_core.proofs.States.{of_log, after_log, stands_after}
 use Rattle.nb_core.proofs.Locals.{local_begun}
@@ -134,3 +134,61 @@ turn builtins rows starts starts' log0 log log' c v first logs begins =
       subst (λ (ss : List (Option Start)). IsClosing builtins rows ss log0 log') (sym begins) (subst (λ (l : List Entry). IsClosing builtins rows (begun builtins rows starts (length log) v) log0 l) (sym logs) (closing_goes_on builtins rows starts log0 log c v first)),
       subst (λ (ss : List (Option Start)). unstarted (length log0) rows ss < unstarted (length log0) rows starts) (sym begins) (fewer_unstarted (length log0) builtins rows starts log c.state v first longer c.settled),
     )
+
+-- ---- as the loop has it, for each log that its starts come from
+
+pub record IsClosingOf (builtins : List (Field Value)) (rows : List VarRow) (starts0 starts : List (Option Start)) (n : ℕ) (es : List Entry) : Type 0 where
+  pub same_len : length starts ≡ length rows
+  pub closing : (log : List Entry) → n ≡ length log → IsState builtins rows starts0 log → IsClosing builtins rows starts log (log ++ es)
+
+-- some such log
+abbrev pub HasLog : List (Field Value) → List VarRow → List (Option Start) → ℕ → Type 0
+HasLog builtins rows starts n = (log : List Entry) × (n ≡ length log) × IsState builtins rows starts log
+
+pub loop_begins : (builtins : List (Field Value)) (rows : List VarRow) (starts : List (Option Start)) (n : ℕ) → HasLog builtins rows starts n → IsClosingOf builtins rows starts starts n []
+loop_begins builtins rows starts n some =
+    record {
+      same_len = some.2.same_len;
+      closing = λ log e state. subst (λ (l : List Entry). IsClosing builtins rows starts log l) (sym (append-nil log)) (closing_begins builtins rows starts log state);
+    }
+
+module _ (builtins : List (Field Value)) (rows : List VarRow) (starts0 starts starts' : List (Option Start)) (n : ℕ) (es es' : List Entry) (c : IsClosingOf builtins rows starts0 starts n es) (v : ℕ)
+    (first : first_where (may_begin (at_rows builtins rows starts)) (numbers rows) ≡ Some v)
+    (entries : es' ≡ es ++ Pending v [] ∷ []) (begins : starts' ≡ begun builtins rows starts (n + length es) v) where
+  one_turn : (log : List Entry) → n ≡ length log → IsState builtins rows starts0 log
+      → IsClosing builtins rows starts' log (log ++ es') × (unstarted (length log) rows starts' < unstarted (length log) rows starts)
+  one_turn log e state =
+      let len : n + length es ≡ length (log ++ es) = omega (arith, e, length-append log es) in
+      turn builtins rows starts starts' log (log ++ es) (log ++ es') (c.closing log e state) v first
+      (ap (λ (xs : List Entry). log ++ xs) entries ∙ sym (append_assoc log es (Pending v [] ∷ [])))
+      (begins ∙ ap (λ (m : ℕ). begun builtins rows starts m v) len)
+
+  pub loop_goes_on : HasLog builtins rows starts0 n → IsClosingOf builtins rows starts0 starts' n es'
+  loop_goes_on some =
+      record {
+        same_len = (one_turn some.0 some.1 some.2).0.state.same_len;
+        closing = λ log e state. (one_turn log e state).0;
+      }
+
+  pub loop_smaller : HasLog builtins rows starts0 n → unstarted n rows starts' < unstarted n rows starts
+  loop_smaller some = subst (λ (m : ℕ). unstarted m rows starts' < unstarted m rows starts) (sym some.1) (one_turn some.0 some.1 some.2).1
+
+cons_tail : (x y : Entry) (xs ys : List Entry) → x ∷ xs ≡ y ∷ ys → xs ≡ ys
+cons_tail x y xs ys h = cc
+
+append-cancel : (log es fs : List Entry) → log ++ es ≡ log ++ fs → es ≡ fs
+append-cancel [] es fs h = h
+append-cancel (x ∷ log) es fs h = append-cancel log es fs (cons_tail x x (log ++ es) (log ++ fs) h)
+
+pub loop_ends : (builtins : List (Field Value)) (rows : List VarRow) (starts0 starts : List (Option Start)) (n : ℕ) (es : List Entry) → IsClosingOf builtins rows starts0 starts n es
+    → first_where (may_begin (at_rows builtins rows starts)) (numbers rows) ≡ None
+    → (log : List Entry) → n ≡ length log → IsState builtins rows starts0 log → IsClosed builtins rows starts log es
+loop_ends builtins rows starts0 starts n es c none log e state =
+    let k : IsClosing builtins rows starts log (log ++ es) = c.closing log e state in
+    let found : Closes (reading builtins log) k.so_far.0 = closes_end (reading builtins log) (reading builtins (log ++ es)) k.so_far.0 k.so_far.2 (state_quiet builtins rows starts (log ++ es) k.state none).0 in
+    let same : es ≡ k.so_far.0 = append-cancel log es k.so_far.0 k.so_far.1 in
+    record {
+      state = k.state;
+      quiet = state_quiet builtins rows starts (log ++ es) k.state none;
+      closes = subst (λ (xs : List Entry). Closes (reading builtins log) xs) (sym same) found;
+    }

@@ -118,6 +118,18 @@ ready_in starts v = from_option false (ready_start (shown_in starts)) (start_of 
 abbrev pub started_in : List (Option Start) → ℕ → Bool
 started_in starts v = not (is_idle (start_of (at [] [] starts) v))
 
+-- the number of v's start, 0 for an idle v
+abbrev pub number_in : List (Option Start) → ℕ → ℕ
+number_in starts v = from_option 0 (λ (s : Start). s.number) (start_of (at [] [] starts) v)
+
+abbrev pub show_all : Outcome → Option Start → Option Start
+show_all x None = None
+show_all x (Some s) = Some (showing_start x s)
+
+-- v's start shows this outcome
+abbrev pub ShowsAt : List (Option Start) → ℕ → Outcome → List (Option Start) → Type 0
+ShowsAt starts v x now = (s : Start) → nth starts v ≡ Some (Some s) → now ≡ put starts v (Some (showing_start x s))
+
 -- ---- what the core keeps
 
 -- the row of an added observed cell of module 0, given at this place
