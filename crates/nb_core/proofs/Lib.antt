@@ -4,6 +4,7 @@ pub mod Cells
 pub mod Closings
 pub mod Completes
 pub mod Cores
+pub mod GivenAt
 pub mod Kept
 pub mod LocalAdds
 pub mod Locals

@@ -1,4 +1,5 @@
 pub mod Codes
 pub mod Core
+pub mod Given
 pub mod Scan
 pub mod State

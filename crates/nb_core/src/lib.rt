@@ -2,8 +2,10 @@
 #![tactic(auto)]
 
 mod closing;
+mod inputs;
 mod names;
 mod placed;
+mod readiness;
 mod starts;
 mod ties;
 
