@@ -1,9 +1,10 @@
 -- What the core's calls leave: a core again, and the entries that the log gained.
-use Rattle.std.proofs.Common.{inl, inr, ℕ, ◌≡◌, ◌+◌, ◌<◌, ◌≤◌, refl, sym, ◌∙◌, ap, subst, Bool, true, false, cond, ◌&&◌, ◌||◌, ◌⊎◌, List, [], ◌∷◌, ◌++◌, append_assoc, map, length, length-append, arith, Option, Some, None, is_some}
+use Rattle.std.proofs.Common.{inl, inr, ℕ, zero, suc, ◌≡◌, ◌+◌, ◌<◌, ◌≤◌, refl, sym, ◌∙◌, ap, subst, Bool, true, false, cond, ◌&&◌, ◌||◌, ◌⊎◌, List, [], ◌∷◌, ◌++◌, append_assoc, map, length, length-append, arith, Option, Some, None, is_some}
 use Rattle.std.specs.List.{list_all, filter}
 use Rattle.std.proofs.lemmas.Bool.{false≢true, and_parts, cases_eq}
 use Rattle.nb_value.specs.declared.value.Value.{Value}
 use Rattle.nb_value.specs.declared.pairs.Field.{Field}
+use Rattle.std.proofs.lemmas.Option.{none-some}
 use Rattle.nb_value.specs.declared.outcome.Outcome.{Outcome}
 use Rattle.nb_syntax.specs.declared.tree.Cell.{Cell}
 use Rattle.nb_log.specs.declared.row.VarRow.{VarRow}
@@ -166,3 +167,22 @@ module _ (builtins : List (Field Value)) (rows : List VarRow) (starts : List (Op
         },
         fewer (log ++ shown_entry v told ∷ []) state',
       )
+
+-- ---- a core without entries
+
+nothing_there : {A : Type 0} (v : ℕ) (x : A) → nth [] v ≡ Some x → ⊥
+nothing_there zero x h = none-some x h
+nothing_there (suc i) x h = none-some x h
+
+pub core_begins : (builtins : List (Field Value)) → IsCore builtins [] [] []
+core_begins builtins =
+    let state : IsState builtins [] [] [] =
+      record {
+        stands = refl;
+        legal = tt;
+        plain = λ v row h. absurd (nothing_there v row h);
+        bare = λ v s h. absurd (nothing_there v (Some s) h);
+        same_len = refl;
+        local = record { small = λ v s h. absurd (nothing_there v (Some s) h); shows = λ v s h. absurd (nothing_there v (Some s) h) };
+      } in
+    record { state = state; quiet = state_quiet builtins [] [] [] state refl; few = omega arith }

@@ -21,13 +21,15 @@ use Rattle.nb_log.specs.declared.event.Event.TheVariants.{Edit as EditEvent}
 use Rattle.nb_log.specs.declared.entry.Entry.{Entry}
 use Rattle.nb_history.specs.Lists.{Name, from_option, numbers}
 use Rattle.nb_history.specs.Names.{inputs}
-use Rattle.nb_history.specs.Reading.{Reading, Start, start_of, shown}
+use Rattle.nb_history.specs.Reading.{Reading, Start, start_of, is_idle, shown}
 use Rattle.nb_history.specs.Rules.{deciding_error, body_of, values_given, first_value, answers_of, pulls_of, ready, is_running, next}
 use Rattle.nb_history.specs.Log.{after, read_from}
 use Rattle.nb_history.specs.Serial.{Closes, Todo, SerialFrom, closing, least_var}
 use Rattle.nb_history.specs.History.{History, standing}
 use Rattle.nb_core.specs.declared.placed.Placed.{Placed}
 use Rattle.nb_core.specs.declared.placed.Placed.TheVariants.{Shown, Stale}
+use Rattle.nb_core.specs.declared.placed.Shown.{Shown as ShownNow}
+use Rattle.nb_core.specs.declared.placed.Shown.TheVariants as now
 use Rattle.nb_core.specs.State.{ending_outcome}
 
 -- the event of an added observed cell of module 0
@@ -90,3 +92,28 @@ Places old new v start done (Shown place) =
     IsPresent (standing old) v start done × (place ≡ length old.log + 1) × Gains old (next (standing old) v) new × (running new < running old)
 Places old new v start done (Stale held now) =
     (IsPresent (standing old) v start done → ⊥) × (held ≡ start) × (now ≡ start_number (standing old) v) × (new ≡ old)
+
+-- ---- what a variable shows
+
+abbrev pub shown_outcome : ShownNow → Option Outcome
+shown_outcome now.Idle = None
+shown_outcome now.Waiting = None
+shown_outcome (now.Value x) = Some (Shows x.now)
+shown_outcome (now.Error e) = Some (Fails e.now)
+
+abbrev pub shows_idle : ShownNow → Bool
+shows_idle now.Idle = true
+shows_idle now.Waiting = false
+shows_idle (now.Value x) = false
+shows_idle (now.Error e) = false
+
+-- idle exactly where v has no start, and else what its start shows, or that it waits
+pub record ShownIs (r : Reading) (v : ℕ) (s : ShownNow) : Type 0 where
+  pub idle : shows_idle s ≡ is_idle (start_of r v)
+  pub outcome : shown_outcome s ≡ shown r v
+
+-- the log goes on with further entries
+pub record IsLonger (old new : History) : Type 0 where
+  pub builtins : new.builtins ≡ old.builtins
+  pub es : List Entry
+  pub longer : new.log ≡ old.log ++ es

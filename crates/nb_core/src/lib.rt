@@ -1,7 +1,9 @@
 //! The machine of a notebook: it takes events and outcomes, and keeps the log.
 #![tactic(auto)]
 
+mod adding;
 mod closing;
+mod done;
 mod inputs;
 mod names;
 mod placed;

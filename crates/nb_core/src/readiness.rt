@@ -1,26 +1,13 @@
 ghost use Rattle.std.specs.Prelude.{◌≡◌, ◌≤◌, ◌<◌, is_some, length};
 ghost use Rattle.std.specs.List.{list_all};
-ghost use Rattle.std.specs.Option.{option_copied};
 ghost use Rattle.nb_history.specs.Lists.{first_where, numbers};
-ghost use Rattle.nb_core.specs.State.{shown_in, started_in, is_var_code, code_shows, ready_start, ready_in, number_in, show_all, ShowsAt};
+ghost use Rattle.nb_core.specs.State.{shown_in, started_in, code_shows, ready_start, ready_in, number_in, show_all, ShowsAt};
 
+use crate::inputs::shown_of;
 use crate::starts::Started;
 use nb_value::Outcome;
 
-/// What a variable shows. It takes no memory, and neither does anything here.
-pub fn shown(starts: &[Option<Started>], v: u32) -> Option<&Outcome>
-    ensures { option_copied result ≡ shown_in starts.now v }
-{
-    if v == 0 || v as usize > starts.len() {
-        return None;
-    }
-    match &starts[v as usize - 1] {
-        None => None,
-        Some(start) => start.shown(),
-    }
-}
-
-/// Whether a variable has a start.
+/// Whether a variable has a start. Nothing here takes memory.
 pub fn is_started(starts: &[Option<Started>], v: u32) -> bool
     ensures { result ≡ started_in starts.now v }
 {
@@ -47,7 +34,7 @@ pub fn number(starts: &[Option<Started>], v: u32) -> u64
 fn shows(starts: &[Option<Started>], v: u32) -> bool
     ensures { result ≡ is_some (shown_in starts.now v) }
 {
-    shown(starts, v).is_some()
+    shown_of(starts, v).is_some()
 }
 
 /// Whether an input, by its number, is no variable or shows something.
