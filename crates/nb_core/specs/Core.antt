@@ -19,11 +19,12 @@ use Rattle.nb_log.specs.declared.edit.Edit.TheVariants.{AddCell}
 use Rattle.nb_log.specs.declared.event.Event.{Event}
 use Rattle.nb_log.specs.declared.event.Event.TheVariants.{Edit as EditEvent}
 use Rattle.nb_log.specs.declared.entry.Entry.{Entry}
+use Rattle.nb_log.specs.declared.entry.Entry.TheVariants.{Edit as EditEntry}
 use Rattle.nb_history.specs.Lists.{Name, from_option, numbers}
 use Rattle.nb_history.specs.Names.{inputs}
 use Rattle.nb_history.specs.Reading.{Reading, Start, start_of, is_idle, shown}
 use Rattle.nb_history.specs.Rules.{deciding_error, body_of, values_given, first_value, answers_of, pulls_of, ready, is_running, next}
-use Rattle.nb_history.specs.Log.{after, read_from}
+use Rattle.nb_history.specs.Log.{after, admit}
 use Rattle.nb_history.specs.Serial.{Closes, Todo, SerialFrom, closing, least_var}
 use Rattle.nb_history.specs.History.{History, standing}
 use Rattle.nb_core.specs.declared.placed.Placed.{Placed}
@@ -39,6 +40,10 @@ IsAddedCell event = (cell : _) × (event ≡ EditEvent (AddCell 0 cell true))
 -- the place of v's `pending` entry in its present start, and 0 for an idle v
 abbrev pub start_number : Reading → ℕ → ℕ
 start_number r v = from_option 0 (λ (s : Start). s.number) (start_of r v)
+
+-- the event is an edit, and gives the edit's entry
+abbrev pub IsAdmitted : Reading → ℕ → Event → Type 0
+IsAdmitted r editor event = (edit : Edit) × (event ≡ EditEvent edit) × (admit r editor event ≡ EditEntry editor edit)
 
 -- ---- work
 

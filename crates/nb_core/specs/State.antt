@@ -122,6 +122,10 @@ started_in starts v = not (is_idle (start_of (at [] [] starts) v))
 abbrev pub number_in : List (Option Start) → ℕ → ℕ
 number_in starts v = from_option 0 (λ (s : Start). s.number) (start_of (at [] [] starts) v)
 
+-- the marks of v's start
+abbrev pub marks_in : List (Option Start) → ℕ → Bool × Bool
+marks_in starts v = from_option (false, false) (λ (s : Start). (s.kept.is_duplicate, s.kept.is_circular)) (start_of (at [] [] starts) v)
+
 abbrev pub show_all : Outcome → Option Start → Option Start
 show_all x None = None
 show_all x (Some s) = Some (showing_start x s)

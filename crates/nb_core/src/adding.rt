@@ -51,7 +51,7 @@ fn new_row(alloc: Global, cell: &Cell, place: u64) -> Result<VarRow, AllocError>
 
 /// What follows an entry by which one more variable came: the starts then, and the entries.
 #[derive(Drop)]
-pub struct Follows {
+pub struct After {
     pub starts: Vec<Option<Started>>,
     pub entries: Vec<Entry>,
 }
@@ -63,7 +63,7 @@ fn follows(
     rows: &[VarRow],
     starts: &[Option<Started>],
     place: u64,
-) -> Result<Follows, AllocError>
+) -> Result<After, AllocError>
     requires few { length rows.now ≤ 1024 }
     requires small { length builtins.now ≤ 65536 }
     requires room { place < 2 ^ 63 }
@@ -75,7 +75,7 @@ fn follows(
     let mut copies = copy_starts(alloc, starts)?;
     copies.push(None)?;
     let entries = close(alloc, builtins, rows, &ties, &mut copies, place)?;
-    Ok(Follows {
+    Ok(After {
         starts: copies,
         entries,
     })
@@ -89,7 +89,7 @@ pub fn grow(
     starts: &[Option<Started>],
     cell: &Cell,
     place: u64,
-) -> Result<Follows, AllocError>
+) -> Result<After, AllocError>
     requires few { length rows.old.items < 1024 }
     requires small { length builtins.now ≤ 65536 }
     requires room { place < 2 ^ 63 }

@@ -5,10 +5,12 @@ mod adding;
 mod closing;
 mod done;
 mod inputs;
+mod machine;
 mod names;
 mod placed;
 mod readiness;
 mod starts;
 mod ties;
 
+pub use machine::{Core, settle};
 pub use placed::{Placed, Shown};

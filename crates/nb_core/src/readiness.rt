@@ -1,7 +1,7 @@
 ghost use Rattle.std.specs.Prelude.{◌≡◌, ◌≤◌, ◌<◌, is_some, length};
 ghost use Rattle.std.specs.List.{list_all};
 ghost use Rattle.nb_history.specs.Lists.{first_where, numbers};
-ghost use Rattle.nb_core.specs.State.{shown_in, started_in, code_shows, ready_start, ready_in, number_in, show_all, ShowsAt};
+ghost use Rattle.nb_core.specs.State.{shown_in, started_in, code_shows, ready_start, ready_in, number_in, marks_in, show_all, ShowsAt};
 
 use crate::inputs::shown_of;
 use crate::starts::Started;
@@ -27,6 +27,19 @@ pub fn number(starts: &[Option<Started>], v: u32) -> u64
     match &starts[v as usize - 1] {
         None => 0,
         Some(start) => start.number(),
+    }
+}
+
+/// Whether a variable's start is that of a duplicate, and whether that of a circular variable.
+pub fn marks(starts: &[Option<Started>], v: u32) -> (bool, bool)
+    ensures { result ≡ marks_in starts.now v }
+{
+    if v == 0 || v as usize > starts.len() {
+        return (false, false);
+    }
+    match &starts[v as usize - 1] {
+        None => (false, false),
+        Some(start) => (start.kept().is_duplicate(), start.kept().is_circular()),
     }
 }
 
