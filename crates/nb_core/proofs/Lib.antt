@@ -1,9 +1,11 @@
 pub mod Adds
 pub mod Begins
+pub mod Calls
 pub mod Cells
 pub mod Closings
 pub mod Completes
 pub mod Cores
+pub mod Events
 pub mod GivenAt
 pub mod Kept
 pub mod LocalAdds
@@ -11,6 +13,7 @@ pub mod Locals
 pub mod Rest
 pub mod Runs
 pub mod Scans
+pub mod Sizes
 pub mod StartsAt
 pub mod States
 pub mod Tables

@@ -116,6 +116,7 @@ impl Core {
         requires low { editor < 8 }
         requires form { IsAddedCell event }
         requires few { length (standing self.old).sheet.rows < 1024 }
+        requires room { length self.old.log ≤ 4000000 }
         requires admitted { IsAdmitted (standing self.old) editor event }
         ensures ok { IfOk result (λ place. (place ≡ length self.old.log + 1) × Gains self.old (admit (standing self.old) editor event) self.new) }
         ensures err { IfErr result (λ refused. (refused.0 ≡ event) × (self.new ≡ self.old)) }
