@@ -59,8 +59,8 @@ module _ (builtins : List (Field Value)) (rows : List VarRow) (starts : List (Op
   pub told_shown : (ss : List (Option Start)) (v : ℕ) (o : Option Outcome) → ss ≡ starts → o ≡ shown_in ss v → o ≡ shown (standing self) v
   told_shown ss v o e is = is ∙ ap (λ (xs : List (Option Start)). shown_in xs v) e ∙ ap (λ (r : Reading). shown r v) here
 
-  pub told_idle : (ss : List (Option Start)) (v : ℕ) (b : Bool) → ss ≡ starts → b ≡ started_in ss v → b ≡ not (is_idle (start_of (standing self) v))
-  told_idle ss v b e is = is ∙ ap (λ (xs : List (Option Start)). started_in xs v) e ∙ ap (λ (r : Reading). not (is_idle (start_of r v))) here
+  pub told_idle : (ss : List (Option Start)) (v : ℕ) (b : Bool) → ss ≡ starts → b ≡ is_idle (start_of (at_rows [] [] ss) v) → b ≡ is_idle (start_of (standing self) v)
+  told_idle ss v b e is = is ∙ ap (λ (xs : List (Option Start)). is_idle (start_of (at_rows [] [] xs) v)) e ∙ ap (λ (r : Reading). is_idle (start_of r v)) here
 
   pub told_scratch : (v : ℕ) (o : Option Outcome) → o ≡ shown (standing self) v → Rests (standing self) → wanted (standing self) v ≡ true → o ≡ scratch (standing self) v
   told_scratch v o is rests w =
@@ -109,6 +109,7 @@ module _ (builtins : List (Field Value)) (rows : List VarRow) (starts : List (Op
         → IsOf (work_of (standing self) v) done → x ≡ done_outcome done → y ≡ done_outcome done
         → log' ≡ log ++ shown_entry v x ∷ [] → ShowsAt starts v y starts'
         → IsCore builtins rows starts' log' × Gains self (next (standing self) v) (history builtins log') × (running (history builtins log') < running self)
+    unfolding started
     told_completed done x y starts' log' work xs ys logs shows =
         let told = next_outcome (at_rows builtins rows starts) v in
         let row = ready_row builtins rows starts log core v ready_here in

@@ -21,7 +21,7 @@ use Rattle.nb_core.specs.Core.{Gains, IsAddedCell, IsAdmitted}
 use Rattle.nb_core.proofs.States.{size_total}
 use Rattle.nb_core.proofs.Adds.{adding, admit_full, admit_many, admit_edit, state_added}
 use Rattle.nb_core.proofs.Closings.{HasLog}
-use Rattle.nb_core.proofs.Cores.{history, refused, added}
+use Rattle.nb_core.proofs.Cores.{history, same_rows, refused, added}
 
 -- ---- events
 
@@ -93,3 +93,9 @@ module _ (builtins : List (Field Value)) (rows : List VarRow) (starts : List (Op
         (subst (λ (v : Event). IsCore builtins rows' starts' log' × Gains (history builtins log) (admit (reading builtins log) editor v) (history builtins log')) (sym is)
         (subst (λ (l : List Entry). IsCore builtins rows' starts' l × Gains (history builtins log) (admit (reading builtins log) editor (adding cell)) (history builtins l)) (sym new_log)
         (subst (λ (rs : List VarRow). IsCore builtins rs starts' (log ++ new ∷ es) × Gains (history builtins log) (admit (reading builtins log) editor (adding cell)) (history builtins (log ++ new ∷ es))) (sym new_rows) c)))
+
+pub few_here : (builtins : List (Field Value)) (rows : List VarRow) (starts : List (Option Start)) (log : List Entry) (core : IsCore builtins rows starts log) (self : History) → history builtins log ≡ self
+    → length (standing self).sheet.rows < 1024 → length rows < 1024
+few_here builtins rows starts log core self same few =
+    let e : length rows ≡ length (standing self).sheet.rows = ap (λ (rs : List VarRow). length rs) (same_rows builtins rows starts log core ∙ ap (λ (h : History). (standing h).sheet.rows) same) in
+    omega (arith, few, e)

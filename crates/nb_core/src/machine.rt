@@ -14,7 +14,7 @@ use crate::readiness;
 use crate::starts::Started;
 use nb_eval::{Work, WorkDone, is_work_of};
 use nb_log::{Entry, Event, Log, Refusal, VarRow};
-use nb_value::{Outcome, Pairs, Value};
+use nb_value::{Pairs, Value};
 use std::alloc::{AllocError, Global};
 use std::marker::Model;
 
@@ -249,17 +249,7 @@ impl Core {
         ensures value { ShownIs (standing self.now) var result }
         ensures rest { Rests (standing self.now) → wanted_of (standing self.now) var ≡ true → shown_outcome result ≡ scratch (standing self.now) var }
     {
-        match inputs::shown_of(&self.starts, var) {
-            Some(Outcome::Value(value)) => Shown::Value(value),
-            Some(Outcome::Error(error)) => Shown::Error(error),
-            None => {
-                if readiness::is_started(&self.starts, var) {
-                    Shown::Waiting
-                } else {
-                    Shown::Idle
-                }
-            }
-        }
+        readiness::shown_at(&self.starts, var)
     }
 
     /// Whether a variable is wanted. It takes no memory.

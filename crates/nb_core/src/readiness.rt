@@ -1,9 +1,11 @@
-ghost use Rattle.std.specs.Prelude.{◌≡◌, ◌≤◌, ◌<◌, is_some, length};
+ghost use Rattle.std.specs.Prelude.{◌≡◌, ◌≤◌, ◌<◌, [], is_some, length};
 ghost use Rattle.std.specs.List.{list_all};
 ghost use Rattle.nb_history.specs.Lists.{first_where, numbers};
-ghost use Rattle.nb_core.specs.State.{shown_in, started_in, code_shows, ready_start, ready_in, number_in, marks_in, show_all, ShowsAt};
+ghost use Rattle.nb_core.specs.Core.{ShownIs};
+ghost use Rattle.nb_core.specs.State.{at, shown_in, started_in, code_shows, ready_start, ready_in, number_in, marks_in, show_all, ShowsAt};
 
 use crate::inputs::shown_of;
+use crate::placed::Shown;
 use crate::starts::Started;
 use nb_value::Outcome;
 
@@ -48,6 +50,23 @@ fn shows(starts: &[Option<Started>], v: u32) -> bool
     ensures { result ≡ is_some (shown_in starts.now v) }
 {
     shown_of(starts, v).is_some()
+}
+
+/// What a variable shows.
+pub fn shown_at(starts: &[Option<Started>], v: u32) -> Shown<'_>
+    ensures { ShownIs (at [] [] starts.now) v result }
+{
+    match shown_of(starts, v) {
+        Some(Outcome::Value(value)) => Shown::Value(value),
+        Some(Outcome::Error(error)) => Shown::Error(error),
+        None => {
+            if is_started(starts, v) {
+                Shown::Waiting
+            } else {
+                Shown::Idle
+            }
+        }
+    }
 }
 
 /// Whether an input, by its number, is no variable or shows something.
