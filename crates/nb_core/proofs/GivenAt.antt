@@ -6,7 +6,7 @@ use Rattle.nb_value.specs.Fields as fields
 use Rattle.nb_value.specs.declared.outcome.CellError.{CellError}
 use Rattle.nb_value.specs.declared.outcome.ErrorKind.TheVariants.{DefinedTwice, Circular}
 use Rattle.nb_value.specs.declared.outcome.Outcome.{Outcome}
-use Rattle.nb_value.specs.declared.outcome.Outcome.TheVariants.{Value as Shows, Error as Fails}
+use Rattle.nb_value.specs.declared.outcome.Outcome.TheVariants.{Error as Fails}
 use Rattle.nb_eval.specs.declared.work.Work.{Work}
 use Rattle.nb_eval.specs.declared.work.Work.TheVariants.{Direct, Run}
 use Rattle.nb_log.specs.declared.row.BodyOf.{BodyOf}
@@ -17,7 +17,7 @@ use Rattle.nb_history.specs.declared.resolution.Resolution.TheVariants.{Var, Bui
 use Rattle.nb_history.specs.Lists.{Name, nth, from_option, option_then, or_else}
 use Rattle.nb_history.specs.Sheet.{Sheet}
 use Rattle.nb_history.specs.Names.{duplicate, circular, inputs, inputs_of_row}
-use Rattle.nb_history.specs.Reading.{Reading, Start, shown}
+use Rattle.nb_history.specs.Reading.{Start, shown}
 use Rattle.nb_history.specs.Rules.{given, first_error, plain_error, value_given, values_given, marked_error, deciding_error, name_of, body_of, answers_of, pulls_of}
 use Rattle.nb_core.specs.Core.{values_of, body_work, work_of}
 use Rattle.nb_core.specs.Given.{first_error_in, values_in, marked_by, first_work}
@@ -70,7 +70,7 @@ module _ (builtins : List (Field Value)) (rows : List VarRow) (starts : List (Op
   deciding_read twice around marked error d c m e =
       e ∙ ap (λ (o : Option CellError). or_else o (first_error_in builtins starts found)) (m ∙ marked_read twice around d c)
       ∙ ap (λ (o : Option CellError). or_else (marked_error (sheet_of builtins rows) v) o)
-        (errors_rows builtins rows (shown_in starts) found ∙ ap (λ (is : List (Name × Resolution)). first_error (map (given (sheet_of builtins rows) (shown_in starts)) is)) own_inputs)
+      (errors_rows builtins rows (shown_in starts) found ∙ ap (λ (is : List (Name × Resolution)). first_error (map (given (sheet_of builtins rows) (shown_in starts)) is)) own_inputs)
 
   values_read : (pairs : List (Field Value)) → pairs ≡ values_in builtins starts found → pairs ≡ values_of (at builtins rows starts) v
   values_read pairs e =

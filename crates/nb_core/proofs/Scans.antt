@@ -1,14 +1,12 @@
 -- Steps of the loops that scan rows and names.
-use Rattle.std.proofs.Common.{inl, inr, ℕ, zero, suc, ◌≡◌, ◌+◌, ◌-◌, ◌<◌, ◌≤◌, refl, sym, ◌∙◌, ap, subst, Bool, true, false, cond, ◌&&◌, ◌||◌, List, [], ◌∷◌, ◌++◌, append-nil, append_assoc, map, length, take, drop, get_or, length-take, add-zero, add-one, add_assoc, arith, Option, Some, None}
-use Rattle.std.specs.Prelude.{slice_get}
+use Rattle.std.proofs.Common.{inl, inr, ℕ, zero, suc, ◌≡◌, ◌+◌, ◌-◌, ◌<◌, ◌≤◌, refl, sym, ◌∙◌, ap, Bool, true, false, cond, List, [], ◌∷◌, ◌++◌, append-nil, length, take, drop, get_or, length-take, add-zero, add-one, arith, Some, None}
 use Rattle.std.proofs.lemmas.List.{take_more, take_all, drop_all}
 use Rattle.std.proofs.lemmas.Option.{slice_get-get_or}
 use Rattle.std.proofs.lemmas.Bool.{cases_Bool}
-use Rattle.nb_history.specs.Lists.{Name, has, nth, numbers, numbers_from, is_name}
+use Rattle.nb_history.specs.Lists.{Name, nth, numbers_from}
 use Rattle.nb_history.specs.Names.{resolved}
 use Rattle.nb_log.specs.declared.row.VarRow.{VarRow}
 use Rattle.nb_history.specs.declared.resolution.Resolution.{Resolution}
-use Rattle.nb_history.specs.declared.resolution.Resolution.TheVariants.{Var, Builtin, Twice, Missing}
 use Rattle.nb_core.specs.Scan.{also, has_name, found_in}
 
 pub numbers_from_push : {A : Type 0} (test : A → Bool) (k : ℕ) (xs : List A) (x : A) → numbers_from k test (xs ++ x ∷ []) ≡ numbers_from k test xs ++ cond (test x) ((k + length xs) ∷ []) []
@@ -16,8 +14,8 @@ numbers_from_push test k [] x = rw add-zero refl
 numbers_from_push test k (y ∷ xs) x =
     let e : k + 1 + length xs ≡ k + suc (length xs) = omega arith in
     elim (cases_Bool (test y)) [
-      inl here ↦ rw here (ap (λ (l : List ℕ). k ∷ l) (numbers_from_push test (k + 1) xs x) ∙ rw e refl)
-    | inr not_here ↦ rw not_here (numbers_from_push test (k + 1) xs x ∙ rw e refl)
+      | inl here ↦ rw here (ap (λ (l : List ℕ). k ∷ l) (numbers_from_push test (k + 1) xs x) ∙ rw e refl)
+      | inr not_here ↦ rw not_here (numbers_from_push test (k + 1) xs x ∙ rw e refl)
     ]
 
 resolved_push : (vs : List ℕ) (w : ℕ) → resolved (vs ++ w ∷ []) None ≡ also w (resolved vs None)
@@ -28,8 +26,8 @@ resolved_push (v ∷ u ∷ more) w = refl
 found_push : (m : ℕ) (n : Name) (rows : List VarRow) (row : VarRow) → found_in m n (rows ++ row ∷ []) ≡ cond (has_name m n row) (also (1 + length rows) (found_in m n rows)) (found_in m n rows)
 found_push m n rows row =
     elim (cases_Bool (has_name m n row)) [
-      inl here ↦ rw (numbers_from_push (has_name m n) 1 rows row, here) (resolved_push (numbers_from 1 (has_name m n) rows) (1 + length rows))
-    | inr not_here ↦ rw (numbers_from_push (has_name m n) 1 rows row, not_here, append-nil) refl
+      | inl here ↦ rw (numbers_from_push (has_name m n) 1 rows row, here) (resolved_push (numbers_from 1 (has_name m n) rows) (1 + length rows))
+      | inr not_here ↦ rw (numbers_from_push (has_name m n) 1 rows row, not_here, append-nil) refl
     ]
 
 found_more : (m : ℕ) (n : Name) (rows : List VarRow) (i : ℕ) (d : VarRow) → i < length rows

@@ -1,29 +1,26 @@
 -- The starts, and the first that may begin.
-use Rattle.std.proofs.Common.{inl, inr, ℕ, zero, suc, ◌≡◌, ◌+◌, ◌-◌, ◌<◌, ◌≤◌, refl, sym, ◌∙◌, ap, subst, Bool, true, false, cond, not, ◌&&◌, ◌||◌, List, [], ◌∷◌, ◌++◌, map, length, get_or, arith, Option, Some, None}
-use Rattle.std.specs.Prelude.{slice_get, IsTrue, ◌↔◌}
-use Rattle.std.proofs.lemmas.Option.{slice_get-get_or}
+use Rattle.std.proofs.Common.{inl, inr, ℕ, zero, suc, ◌≡◌, ◌+◌, ◌-◌, ◌<◌, ◌≤◌, refl, sym, ◌∙◌, ap, Bool, true, false, not, List, ◌∷◌, length, get_or, arith, Option, Some, None}
+use Rattle.std.specs.Prelude.{IsTrue, ◌↔◌}
 use Rattle.std.proofs.lemmas.Bool.{cases_Bool, false≢true, false_from_ne_true}
-use Rattle.std.specs.List.{range_with_len, list_any}
-use Rattle.std.proofs.Common.{add-zero, add-one}
+use Rattle.std.specs.List.{range_with_len}
+use Rattle.std.proofs.Common.{add-one}
 use Rattle.std.proofs.lemmas.Option.{none-some}
 use Rattle.nb_history.specs.Lists.{first_where, nth, from_option, option_then}
-use Rattle.nb_history.specs.Reading.{Reading, Start, Footing, start_of}
+use Rattle.nb_history.specs.Reading.{Reading, Start, Footing}
 use Rattle.nb_history.specs.Rules.{footing, is_behind, same_footing}
 use Rattle.nb_log.specs.declared.row.VarRow.{VarRow}
 use Rattle.nb_history.proofs.Footings.{same_footing_eq, same_footing_refl}
-use Rattle.nb_history.specs.Lists.{has}
-use Rattle.nb_history.specs.Names.{circular, direct, needed}
 use Rattle.nb_value.specs.declared.value.Value.{Value}
 use Rattle.nb_value.specs.declared.pairs.Field.{Field}
-use Rattle.nb_core.specs.State.{at, sheet_of, Ties, ties_of, renewal_in, may_begin}
-use Rattle.nb_core.proofs.Scans.{nth_at, nth_read_at}
+use Rattle.nb_core.specs.State.{at}
+use Rattle.nb_core.proofs.Scans.{nth_at}
 
 -- the test of two footings is what a comparison of them tells
 same_told : (f g : Footing) (b : Bool) → (IsTrue b ↔ (f ≡ g)) → b ≡ same_footing f g
 same_told f g b h =
     elim (cases_Bool b) [
-      inl t ↦ t ∙ sym (rw (h.0 t) (same_footing_refl g))
-    | inr n ↦ n ∙ sym (false_from_ne_true (same_footing f g) (λ s. false≢true (sym n ∙ h.1 (same_footing_eq f g s))))
+      | inl t ↦ t ∙ sym (rw (h.0 t) (same_footing_refl g))
+      | inr n ↦ n ∙ sym (false_from_ne_true (same_footing f g) (λ s. false≢true (sym n ∙ h.1 (same_footing_eq f g s))))
     ]
 
 pub behind_started : (r : Reading) (v : ℕ) (s : Start) (b : Bool) → nth r.starts v ≡ Some (Some s) → (IsTrue b ↔ (footing r v ≡ s.kept)) → not b ≡ is_behind r v
@@ -39,40 +36,13 @@ behind_read builtins rows starts v x s k kept b low high read is now old h =
     behind_started (at builtins rows starts) v s b there
     (λ t. sym now ∙ (h.0 t ∙ old), λ e. h.1 (now ∙ (e ∙ sym old)))
 
--- what is read for a footing
-pub footing_made : (builtins : List (Field Value)) (rows : List VarRow) (starts : List (Option Start)) (v : ℕ) (row : VarRow) (own : Ties) (inputs renewals : List ℕ)
-    → nth rows v ≡ Some row → own ≡ ties_of (sheet_of builtins rows) v → inputs ≡ own.inputs → renewals ≡ cond own.is_circular [] (map (renewal_in starts) own.direct)
-    → record { place = row.place; is_duplicate = own.is_duplicate; is_circular = own.is_circular; inputs = inputs; renewals = renewals } ≡ footing (at builtins rows starts) v
-footing_made builtins rows starts v row own inputs renewals there tied ins news =
-    let place : row.place ≡ from_option 0 (λ (row : VarRow). row.place) (nth rows v) = sym (ap (λ (o : Option VarRow). from_option 0 (λ (row : VarRow). row.place) o) there) in
-    let ins' : inputs ≡ (ties_of (sheet_of builtins rows) v).inputs = ins ∙ ap (λ (t : Ties). t.inputs) tied in
-    let news' : renewals ≡ cond (circular (sheet_of builtins rows) v) [] (map (renewal_in starts) (direct (sheet_of builtins rows) v)) = news ∙ ap (λ (t : Ties). cond t.is_circular [] (map (renewal_in starts) t.direct)) tied in
-    λ j. record { place = place j; is_duplicate = (tied j).is_duplicate; is_circular = (tied j).is_circular; inputs = ins' j; renewals = news' j }
-
--- ---- what may begin
-
-module _ (r : Reading) (v : ℕ) where
-  pub begins_no : (b : Bool) → b ≡ is_behind r v → b ≡ false → false ≡ may_begin r v
-  begins_no b e f = sym (ap (λ (x : Bool). x && (circular r.sheet v || not (list_any (is_behind r) (needed r.sheet v)))) (sym e ∙ f))
-
-  pub begins_circular : (b c : Bool) → b ≡ is_behind r v → b ≡ true → c ≡ circular r.sheet v → c ≡ true → true ≡ may_begin r v
-  begins_circular b c e t f u =
-      sym (ap (λ (x : Bool). x && (circular r.sheet v || not (list_any (is_behind r) (needed r.sheet v)))) (sym e ∙ t)
-      ∙ ap (λ (x : Bool). x || not (list_any (is_behind r) (needed r.sheet v))) (sym f ∙ u))
-
-  pub begins_free : (b c o : Bool) → b ≡ is_behind r v → b ≡ true → c ≡ circular r.sheet v → c ≡ false → o ≡ list_any (is_behind r) (needed r.sheet v) → not o ≡ may_begin r v
-  begins_free b c o e t f u others =
-      ap not others
-      ∙ sym (ap (λ (x : Bool). x && (circular r.sheet v || not (list_any (is_behind r) (needed r.sheet v)))) (sym e ∙ t)
-      ∙ ap (λ (x : Bool). x || not (list_any (is_behind r) (needed r.sheet v))) (sym f ∙ u))
-
 -- ---- the first number that passes
 
 first_skips : (test : ℕ → Bool) (x : ℕ) (xs : List ℕ) → first_where test (x ∷ xs) ≡ None → (test x ≡ false) × (first_where test xs ≡ None)
 first_skips test x xs h =
     elim (cases_Bool (test x)) [
-      inl here ↦ let g : Some x ≡ None = rw here at h in absurd (none-some x (sym g))
-    | inr not_here ↦ (not_here, rw not_here at h)
+      | inl here ↦ let g : Some x ≡ None = rw here at h in absurd (none-some x (sym g))
+      | inr not_here ↦ (not_here, rw not_here at h)
     ]
 
 first_hit : (test : ℕ → Bool) (a k n : ℕ) → first_where test (range_with_len a k) ≡ None → test (a + k) ≡ true → k < n → first_where test (range_with_len a n) ≡ Some (a + k)

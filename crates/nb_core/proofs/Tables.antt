@@ -1,13 +1,13 @@
 -- Marks of numbers, rounds over a table of direct needs, and what each variable's names tie it to.
-use Rattle.std.proofs.Common.{inl, inr, ◌⊎◌, ℕ, zero, suc, ◌≡◌, ◌+◌, ◌-◌, ◌<◌, ◌≤◌, refl, sym, ◌∙◌, ap, subst, Bool, true, false, cond, ◌&&◌, ◌||◌, eqb, List, [], ◌∷◌, ◌++◌, append-nil, map, length, take, length-take, get_or, set, replicate, add-zero, add-one, arith, Option, Some, None}
+use Rattle.std.proofs.Common.{inl, inr, ◌⊎◌, ℕ, zero, suc, ◌≡◌, ◌+◌, ◌-◌, ◌<◌, ◌≤◌, refl, sym, ◌∙◌, ap, Bool, true, false, cond, ◌||◌, eqb, List, [], ◌∷◌, ◌++◌, append-nil, map, length, take, length-take, get_or, set, replicate, add-zero, arith, Option, Some, None}
 use Rattle.std.specs.Prelude.{slice_get}
 use Rattle.std.specs.List.{filter, filter_map, list_any, range_with_len}
 use Rattle.std.proofs.lemmas.List.{take_more}
 use Rattle.std.proofs.lemmas.List.FromFn.{length-range_with_len, length-map-range_with_len, get_or-map-range_with_len, map-range_with_len_more}
-use Rattle.std.proofs.lemmas.Bool.{cases_Bool, cases_lt, ne_eqb, eq-eqb}
+use Rattle.std.proofs.lemmas.Bool.{cases_lt, ne_eqb, eq-eqb}
 use Rattle.nb_log.specs.declared.row.VarRow.{VarRow}
 use Rattle.nb_history.specs.declared.resolution.Resolution.{Resolution}
-use Rattle.nb_history.specs.Lists.{Name, has, nth, numbers, numbers_from, from_option}
+use Rattle.nb_history.specs.Lists.{Name, has, nth, numbers, from_option}
 use Rattle.nb_history.specs.Reach.{grown, rounds}
 use Rattle.nb_history.specs.Sheet.{Sheet}
 use Rattle.nb_history.specs.Names.{direct, needed, duplicate, circular, inputs, inputs_of_row, is_duplicate_row, variable_of}
@@ -111,9 +111,9 @@ module _ (direct : ℕ → List ℕ) (vs : List ℕ) (n : ℕ) where
   pub reached_more : (i w : ℕ) (old now : List Bool) → i < length vs → w ≡ get_or vs i 0 → old ≡ reached_by i → now ≡ marked_from 1 (direct w) old → now ≡ reached_by (i + 1)
   reached_more i w old now h at inv e =
       let more : (u : ℕ) → ((has vs u || list_any (λ w. has (direct w) u) (take i vs)) || has (direct w) u) ≡ (has vs u || list_any (λ w. has (direct w) u) (take (i + 1) vs)) =
-        λ u. or_assoc (has vs u) (list_any (λ w. has (direct w) u) (take i vs)) (has (direct w) u)
-          ∙ ap (λ (b : Bool). has vs u || b) (sym (any_push (λ w. has (direct w) u) (take i vs) w)
-            ∙ ap (λ (l : List ℕ). list_any (λ w. has (direct w) u) l) (ap (λ (m : ℕ). take i vs ++ m ∷ []) at ∙ sym (take_more vs i 0 h))) in
+      λ u. or_assoc (has vs u) (list_any (λ w. has (direct w) u) (take i vs)) (has (direct w) u)
+      ∙ ap (λ (b : Bool). has vs u || b) (sym (any_push (λ w. has (direct w) u) (take i vs) w)
+      ∙ ap (λ (l : List ℕ). list_any (λ w. has (direct w) u) l) (ap (λ (m : ℕ). take i vs ++ m ∷ []) at ∙ sym (take_more vs i 0 h))) in
       e ∙ ap (marked_from 1 (direct w)) inv ∙ marked_test (λ u. has vs u || list_any (λ w. has (direct w) u) (take i vs)) (direct w) 1 n
       ∙ map_agree (λ u. (has vs u || list_any (λ w. has (direct w) u) (take i vs)) || has (direct w) u) (λ u. has vs u || list_any (λ w. has (direct w) u) (take (i + 1) vs)) more (range_with_len 1 n)
 
@@ -157,9 +157,6 @@ rounds_stop direct all first vs more k n h inv m same =
     let e : k + (n - k) ≡ n = omega (arith, h) in
     same ∙ sym (steady direct all vs first k (n - k) (sym m ∙ same) (sym inv)) ∙ ap (λ (j : ℕ). rounds direct all j first) e
 
-pub rounds_more : (direct : ℕ → List ℕ) (all first vs more : List ℕ) (k : ℕ) → vs ≡ rounds direct all k first → more ≡ grown direct all vs → more ≡ rounds direct all (k + 1) first
-rounds_more direct all first vs more k inv m = m ∙ ap (grown direct all) inv ∙ ap (λ (j : ℕ). rounds direct all j first) (sym (add-one k))
-
 -- ---- tables of all variables
 
 -- a table by a function of the number
@@ -190,8 +187,8 @@ needs_outside : (table : List (List ℕ)) (w : ℕ) → ((w < 1) ⊎ (1 + length
 needs_outside table zero h = refl
 needs_outside table (suc i) h =
     elim h [
-      inl low ↦ absurd (omega (arith, low))
-    | inr high ↦ ap (λ (o : Option (List ℕ)). from_option [] (λ ns. ns) o) (slice_outside table i (omega (arith, high)))
+      | inl low ↦ absurd (omega (arith, low))
+      | inr high ↦ ap (λ (o : Option (List ℕ)). from_option [] (λ ns. ns) o) (slice_outside table i (omega (arith, high)))
     ]
 
 -- where w has no direct needs in the table, they mark nothing
@@ -203,13 +200,13 @@ module _ (s : Sheet) where
   needs_at : (w : ℕ) → needs_in (map (direct s) (numbers s.rows)) w ≡ direct s w
   needs_at zero = refl
   needs_at (suc i) = elim (cases_lt i (length s.rows)) [
-      inl inside ↦
+    | inl inside ↦
         let e : 1 + i ≡ suc i = omega arith in
         ap (λ (o : Option (List ℕ)). from_option [] (λ ns. ns) o) (slice_map (direct s) 1 (length s.rows) i inside) ∙ ap (direct s) e
     | inr outside ↦
         ap (λ (o : Option (List ℕ)). from_option [] (λ ns. ns) o) (slice_outside (map (direct s) (numbers s.rows)) i (omega (arith, length-map-range_with_len (direct s) 1 (length s.rows), outside)))
         ∙ sym (ap (λ (o : Option VarRow). filter_map variable_of (from_option [] (inputs_of_row s) o)) (slice_outside s.rows i outside))
-    ]
+  ]
 
   needs_table : (table : List (List ℕ)) → table ≡ map (direct s) (numbers s.rows) → needs_in table ≡ direct s
   needs_table table e = ap needs_in e ∙ (λ i w. needs_at w i)

@@ -1,5 +1,5 @@
 -- What the scans over rows and names find.
-use Rattle.std.specs.Prelude.{ℕ, ◌+◌, ◌&&◌, ◌||◌, ◌==◌, Bool, true, false, List, [], ◌∷◌, map, length, Option, Some, None}
+use Rattle.std.specs.Prelude.{ℕ, ◌+◌, ◌&&◌, ◌||◌, ◌==◌, Bool, List, [], ◌∷◌, Option, Some, None}
 use Rattle.std.specs.List.{list_any, position_from}
 use Rattle.std.specs.Str.{bytes_eq}
 use Rattle.nb_value.specs.declared.value.Value.{Value}
@@ -7,7 +7,7 @@ use Rattle.nb_value.specs.declared.pairs.Field.{Field}
 use Rattle.nb_log.specs.declared.row.VarRow.{VarRow}
 use Rattle.nb_history.specs.declared.resolution.Resolution.{Resolution}
 use Rattle.nb_history.specs.declared.resolution.Resolution.TheVariants.{Var, Builtin, Twice, Missing}
-use Rattle.nb_history.specs.Lists.{Name, has, is_name, nth, numbers, numbers_from, from_option}
+use Rattle.nb_history.specs.Lists.{Name, has, is_name, nth, numbers_from, from_option}
 use Rattle.nb_history.specs.Names.{resolved}
 
 -- ---- names

@@ -163,11 +163,7 @@ fn values(
 }
 
 /// An error of a variable with this name.
-fn named_error(
-    alloc: Global,
-    kind: ErrorKind,
-    name: &Option<Text>,
-) -> Result<CellError, AllocError>
+fn named_error(alloc: Global, kind: ErrorKind, name: &Option<Text>) -> Result<CellError, AllocError>
     ensures { IfOk result (λ error. error ≡ plain_error kind (from_option [] (λ n. n) name.now)) }
 {
     match name {
@@ -231,11 +227,7 @@ fn first(alloc: Global, values: &Pairs<Value>) -> Result<Value, AllocError>
 }
 
 /// What is to be done for a body, over the values of its inputs.
-fn body_work(
-    alloc: Global,
-    body: &Option<BodyOf>,
-    values: Pairs<Value>,
-) -> Result<Work, AllocError>
+fn body_work(alloc: Global, body: &Option<BodyOf>, values: Pairs<Value>) -> Result<Work, AllocError>
     ensures { IfOk result (λ work. work ≡ first_work values body.now) }
 {
     match body {

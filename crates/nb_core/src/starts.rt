@@ -211,11 +211,7 @@ pub fn renewal(starts: &[Option<Started>], u: u32) -> u64
 }
 
 /// The renewals of variables.
-fn renewals(
-    alloc: Global,
-    starts: &[Option<Started>],
-    vars: &[u32],
-) -> Result<Vec<u64>, AllocError>
+fn renewals(alloc: Global, starts: &[Option<Started>], vars: &[u32]) -> Result<Vec<u64>, AllocError>
     ensures { IfOk result (λ found. found.items ≡ map (renewal_in starts.now) vars.now) }
 {
     vars.iter().map(|u| renewal(starts, *u)).collect(alloc)

@@ -1,6 +1,4 @@
-use Rattle.std.proofs.Common.{◌≡◌, ◌∙◌, ap, List, Option, Some}
-use Rattle.nb_log.specs.declared.row.VarRow.{VarRow}
-use Rattle.nb_value.specs.declared.outcome.CellError.{CellError}
+use Rattle.std.proofs.Common.{◌≡◌, ◌∙◌, ap, List, Some}
 use Rattle.nb_history.specs.declared.resolution.Resolution.{Resolution}
 use Rattle.nb_history.specs.Lists.{Name, nth, or_else}
 use Rattle.nb_history.specs.Rules.{deciding_error}
@@ -21,9 +19,9 @@ returns-in-Some c =
     let found = c.in_ok-found.found.items in
     let there : nth rows v ≡ Some row = nth_read_at rows v row c.requires.number.0 c.requires.number.1 c.index-rows-v.is in
     let told : c.in_ok-error.error ≡ deciding_error (at builtins rows starts) (shown (at builtins rows starts)) v =
-      deciding_read builtins rows starts v row found there c.in_ok-found.ensures c.args.is_duplicate c.args.is_circular c.in_ok-marked.marked c.in_ok-error.error
-      c.requires.duplicate c.requires.circular c.in_ok-marked.ensures
-      (c.in_ok-error.ensures ∙ ap (λ (is : List (Name × Resolution)). or_else c.in_ok-marked.marked (first_error_in builtins starts is)) c.deref.ensures.value) in
+    deciding_read builtins rows starts v row found there c.in_ok-found.ensures c.args.is_duplicate c.args.is_circular c.in_ok-marked.marked c.in_ok-error.error
+    c.requires.duplicate c.requires.circular c.in_ok-marked.ensures
+    (c.in_ok-error.ensures ∙ ap (λ (is : List (Name × Resolution)). or_else c.in_ok-marked.marked (first_error_in builtins starts is)) c.deref.ensures.value) in
     work_failing builtins rows starts v row found there c.in_ok-found.ensures c.in_ok-error.error c.in-Some.error told c.in-Some.is
 
 pub returns : goal.returns
@@ -36,9 +34,9 @@ returns c =
     let found = c.in_ok-found.found.items in
     let there : nth rows v ≡ Some row = nth_read_at rows v row c.requires.number.0 c.requires.number.1 c.index-rows-v.is in
     let told : c.in_ok-error.error ≡ deciding_error (at builtins rows starts) (shown (at builtins rows starts)) v =
-      deciding_read builtins rows starts v row found there c.in_ok-found.ensures c.args.is_duplicate c.args.is_circular c.in_ok-marked.marked c.in_ok-error.error
-      c.requires.duplicate c.requires.circular c.in_ok-marked.ensures
-      (c.in_ok-error.ensures ∙ ap (λ (is : List (Name × Resolution)). or_else c.in_ok-marked.marked (first_error_in builtins starts is)) c.deref.ensures.value) in
+    deciding_read builtins rows starts v row found there c.in_ok-found.ensures c.args.is_duplicate c.args.is_circular c.in_ok-marked.marked c.in_ok-error.error
+    c.requires.duplicate c.requires.circular c.in_ok-marked.ensures
+    (c.in_ok-error.ensures ∙ ap (λ (is : List (Name × Resolution)). or_else c.in_ok-marked.marked (first_error_in builtins starts is)) c.deref.ensures.value) in
     work_first builtins rows starts v row found there c.in_ok-found.ensures c.in_ok-error.error c.in_ok-pairs-in-None.pairs c.in_ok-work-in-None.work told c.in-None.is
     c.requires.answers c.requires.pulls
     (c.in_ok-pairs-in-None.ensures ∙ ap (λ (is : List (Name × Resolution)). values_in builtins starts is) c.deref-in-None.ensures.value)

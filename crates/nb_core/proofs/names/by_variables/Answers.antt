@@ -9,6 +9,6 @@ loop-i-preserved c =
     let rows = c.args.rows.now in
     let row = c.index-rows-i.result in
     elim c.if-is_of_name.branch [
-      then-is_of_name w ↦ w.found-is ∙ (w.with_one_more-found.ensures ∙ found_yes c.args.within c.args.name.now rows c.loop-i.i row c.is_of_name.result c.loop-i.found inside c.index-rows-i.is c.is_of_name.ensures w.if-is_of_name.true c.loop-i.invariant)
-    | else-is_of_name w ↦ w.found-is ∙ found_no c.args.within c.args.name.now rows c.loop-i.i row c.is_of_name.result c.loop-i.found inside c.index-rows-i.is c.is_of_name.ensures w.if-is_of_name.false c.loop-i.invariant
+      | then-is_of_name w ↦ w.found-is ∙ (w.with_one_more-found.ensures ∙ found_yes c.args.within c.args.name.now rows c.loop-i.i row c.is_of_name.result c.loop-i.found inside c.index-rows-i.is c.is_of_name.ensures w.if-is_of_name.true c.loop-i.invariant)
+      | else-is_of_name w ↦ w.found-is ∙ found_no c.args.within c.args.name.now rows c.loop-i.i row c.is_of_name.result c.loop-i.found inside c.index-rows-i.is c.is_of_name.ensures w.if-is_of_name.false c.loop-i.invariant
     ]

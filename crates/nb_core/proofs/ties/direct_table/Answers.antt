@@ -1,4 +1,4 @@
-use Rattle.std.proofs.Common.{◌+◌, ◌∙◌, ◌<◌, length, arith}
+use Rattle.std.proofs.Common.{ℕ, List, ◌+◌, ◌∙◌, ◌<◌, length, arith}
 use Rattle.nb_history.specs.Names.{direct}
 use Rattle.nb_core.specs.State.{sheet_of}
 use Rattle.nb_core.proofs.Scans.{nth_read}
@@ -11,6 +11,6 @@ loop-i-preserved c =
     let s = sheet_of c.args.builtins.now rows in
     let i = c.loop-i.i in
     let inside : i < length rows = omega arith in
-    c.in_ok-push.ensures.items
-    ∙ table_push (direct s) i c.loop-i.table.items c.from_vec.result c.loop-i.invariant
-      (c.from_vec.ensures ∙ row_direct s (i + 1) c.index-rows-i.result c.in_ok-vars.vars.items (nth_read rows i c.index-rows-i.result inside c.index-rows-i.is) c.in_ok-vars.ensures)
+    ◌∙◌ {A = List (List ℕ)} c.in_ok-push.ensures.items
+    (table_push (direct s) i c.loop-i.table.items c.from_vec.result c.loop-i.invariant
+    (c.from_vec.ensures ∙ row_direct s (i + 1) c.index-rows-i.result c.in_ok-vars.vars.items (nth_read rows i c.index-rows-i.result inside c.index-rows-i.is) c.in_ok-vars.ensures))

@@ -1,4 +1,4 @@
-use Rattle.std.proofs.Common.{inl, inr, ◌∙◌, ◌<◌, ◌≤◌, length, refl, arith, get_or}
+use Rattle.std.proofs.Common.{inl, inr, ◌∙◌, ◌<◌, length, refl, arith, get_or}
 use Rattle.nb_core.proofs.Tables.{mark_yes, mark_no, marked_nothing}
 use Rattle.nb_core.proofs.ties.mark.Goals as goal
 use Rattle.nb_core.proofs.ties.mark.Goals.{then-at-ge1+then-at-marks, else-at-ge1, else-at-ge1-via-then-at-ge1+else-at-marks, else-at-ge1-via-else-at-ge1}
@@ -15,9 +15,9 @@ loop-u-preserved c =
     let now = c.loop-u.marks in
     let inside : i < length us = omega arith in
     elim c.if-at-ge1.branch [
-      then-at-ge1+then-at-marks w ↦ w.marks-is ∙ mark_yes us i u old now inside refl (omega arith) (omega arith) c.loop-u.invariant
-    | else-at-ge1 w ↦ w.marks-is ∙ elim w.else-at-ge1.branch [
-        else-at-ge1-via-then-at-ge1+else-at-marks w' ↦ mark_no us i u old now inside refl (inr (omega arith)) c.loop-u.invariant
-      | else-at-ge1-via-else-at-ge1 w' ↦ mark_no us i u old now inside refl (inl (omega arith)) c.loop-u.invariant
+      | then-at-ge1+then-at-marks w ↦ w.marks-is ∙ mark_yes us i u old now inside refl (omega arith) (omega arith) c.loop-u.invariant
+      | else-at-ge1 w ↦ w.marks-is ∙ elim w.else-at-ge1.branch [
+        | else-at-ge1-via-then-at-ge1+else-at-marks w' ↦ mark_no us i u old now inside refl (inr (omega arith)) c.loop-u.invariant
+        | else-at-ge1-via-else-at-ge1 w' ↦ mark_no us i u old now inside refl (inl (omega arith)) c.loop-u.invariant
       ]
     ]

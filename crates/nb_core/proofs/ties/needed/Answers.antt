@@ -1,4 +1,4 @@
-use Rattle.std.proofs.Common.{◌≡◌, ◌≤◌, ◌∙◌, sym, ap, length, arith, List, ℕ}
+use Rattle.std.proofs.Common.{◌≤◌, ◌∙◌, sym, ap, length, arith, List, ℕ}
 use Rattle.nb_history.specs.Lists.{numbers}
 use Rattle.nb_history.specs.Reach.{grown}
 use Rattle.nb_core.specs.Scan.{needs_in}

@@ -1,4 +1,4 @@
-use Rattle.std.proofs.Common.{◌≡◌, ◌≤◌, ◌∙◌, ap, length, arith, map, List, ℕ}
+use Rattle.std.proofs.Common.{◌≡◌, ◌∙◌, ap, length, arith, map, List, ℕ}
 use Rattle.nb_history.specs.Lists.{Name, has, numbers}
 use Rattle.nb_history.specs.Reach.{rounds}
 use Rattle.nb_history.specs.Rules.{input_code}

@@ -8,7 +8,7 @@ pub listed-requires : goal.listed-requires
 listed-requires c =
     let table = c.args.table.now in
     let e : length c.deref.result.now ≡ length table =
-      ap length c.deref.ensures.value ∙ ap length c.in_ok-marks.ensures ∙ length-map-range_with_len (reaches (needs_in table) c.args.vars.now) 1 (length table) in
+    ap length c.deref.ensures.value ∙ ap length c.in_ok-marks.ensures ∙ length-map-range_with_len (reaches (needs_in table) c.args.vars.now) 1 (length table) in
     omega arith
 
 pub returns : goal.returns
