@@ -92,15 +92,15 @@ module _ (builtins : List (Field Value)) (rows : List VarRow) (starts : List (Op
   state_added =
       record {
         stands = stands_after builtins rows rows' starts starts' log entry (Reading.size (reading builtins log) + entry_size entry) state.stands
-          (ap (λ (n : ℕ). reading_of builtins rows' (starts ++ replicate n None) (length log + 1) (Reading.size (reading builtins log) + entry_size entry)) one_more);
+            (ap (λ (n : ℕ). reading_of builtins rows' (starts ++ replicate n None) (length log + 1) (Reading.size (reading builtins log) + entry_size entry)) one_more);
         legal = legal_append (nothing_yet builtins) log (entry ∷ []) state.legal ((quiet.1, (editor, adding cell, low, sym admits)), tt);
         plain = λ v row there. elim (nth_push rows (row_of cell (length log + 1)) v row there) [
-          inl old ↦ state.plain v row old
-        | inr same ↦ subst (λ (x : VarRow). (x.observed ≡ true) × (is_cell x.body ≡ true)) same (refl, refl)
+          | inl old ↦ state.plain v row old
+          | inr same ↦ subst (λ (x : VarRow). (x.observed ≡ true) × (is_cell x.body ≡ true)) same (refl, refl)
         ];
         bare = λ v s there. subst (λ (n : ℕ). IsBare n s) (sym len_added) (elim (nth_push starts None v (Some s) there) [
-          inl old ↦ older_bare (length log) s (state.bare v s old)
-        | inr same ↦ absurd (none-some s same)
+          | inl old ↦ older_bare (length log) s (state.bare v s old)
+          | inr same ↦ absurd (none-some s same)
         ]);
         same_len = omega (arith, length-append rows (row_of cell (length log + 1) ∷ []), length-append starts (None ∷ []), state.same_len);
         local = subst (IsLocal builtins rows' starts') (sym len_added) (local_added builtins rows starts (length log) (row_of cell (length log + 1)) state.same_len (calm_state builtins rows starts log state quiet.1) state.local);

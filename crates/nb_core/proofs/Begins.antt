@@ -61,7 +61,7 @@ module _ (builtins : List (Field Value)) (rows : List VarRow) (plain : IsPlain r
       let all = needed s v in
       ap (λ (b : Bool). b && (circular s v || not (list_any (due (reading_of builtins rows starts n size)) all))) (due_behind v h)
       ∙ ap (λ (b : Bool). is_behind (reading_of builtins rows starts n size) v && (circular s v || not b))
-        (list_any_agree (due (reading_of builtins rows starts n size)) (is_behind (reading_of builtins rows starts n size)) all (λ x k. due_behind x (needed_within (direct s) (numbers rows) (direct_within s) v x k)))
+      (list_any_agree (due (reading_of builtins rows starts n size)) (is_behind (reading_of builtins rows starts n size)) all (λ x k. due_behind x (needed_within (direct s) (numbers rows) (direct_within s) v x k)))
 
   pub none_leaving : least_var (reading_of builtins rows starts n size) (leaving (reading_of builtins rows starts n size)) ≡ None
   none_leaving = first_nothing (leaving (reading_of builtins rows starts n size)) (numbers rows) (λ x h. ap (λ (b : Bool). not b && not (is_idle (start_of (reading_of builtins rows starts n size) x))) (all_wanted x h))
@@ -113,15 +113,15 @@ module _ (builtins : List (Field Value)) (rows : List VarRow) (starts : List (Op
       record {
         stands = stands_after builtins rows rows starts (begun builtins rows starts (length log) v) log (Pending v []) (Reading.size (reading builtins log) + entry_size (Pending v [])) state.stands refl;
         legal = legal_append (nothing_yet builtins) log (Pending v [] ∷ []) state.legal
-          (subst (λ (x : Reading). LegalFrom x (Pending v [] ∷ [])) (sym state.stands) ((may_v.0, sym owes_nothing), tt));
+            (subst (λ (x : Reading). LegalFrom x (Pending v [] ∷ [])) (sym state.stands) ((may_v.0, sym owes_nothing), tt));
         plain = state.plain;
         bare = λ w s at. subst (λ (m : ℕ). IsBare m s) (sym len) (elim (cases_eq v w) [
-          inl same ↦
-            let e : Some (Some (new_start (length log + 1) (footing (at_rows builtins rows starts) v))) ≡ Some (Some s) =
+          | inl same ↦
+              let e : Some (Some (new_start (length log + 1) (footing (at_rows builtins rows starts) v))) ≡ Some (Some s) =
               sym (nth_put_same starts v start_there.0 (Some (new_start (length log + 1) (footing (at_rows builtins rows starts) v))) start_there.1) ∙ (ap (nth (begun builtins rows starts (length log) v)) same ∙ at) in
-            let f : new_start (length log + 1) (footing (at_rows builtins rows starts) v) ≡ s = same_Some _ _ (same_Some _ _ e) in
-            subst (IsBare (length log + 1)) f (new_bare (length log) (footing (at_rows builtins rows starts) v))
-        | inr other ↦ older_bare (length log) s (state.bare w s (sym (nth_put_other starts v w (Some (new_start (length log + 1) (footing (at_rows builtins rows starts) v))) other) ∙ at))
+              let f : new_start (length log + 1) (footing (at_rows builtins rows starts) v) ≡ s = same_Some _ _ (same_Some _ _ e) in
+              subst (IsBare (length log + 1)) f (new_bare (length log) (footing (at_rows builtins rows starts) v))
+          | inr other ↦ older_bare (length log) s (state.bare w s (sym (nth_put_other starts v w (Some (new_start (length log + 1) (footing (at_rows builtins rows starts) v))) other) ∙ at))
         ]);
         same_len = length_put starts v (Some (new_start (length log + 1) (footing (at_rows builtins rows starts) v))) ∙ state.same_len;
         local = subst (IsLocal builtins rows (begun builtins rows starts (length log) v)) (sym len) (local_begun builtins rows starts (length log) v start_there.0 start_there.1 state.local);
@@ -150,5 +150,5 @@ pub begins_none : (builtins : List (Field Value)) (rows : List VarRow) (starts :
 begins_none builtins rows starts log state quiet =
     let quiet' : IsQuiet (of_log builtins rows starts log) = subst IsQuiet state.stands quiet in
     first_nothing (may_begin (at_rows builtins rows starts)) (numbers rows) (λ x h.
-        let calm : is_behind (of_log builtins rows starts log) x ≡ false = sym (due_behind builtins rows state.plain starts (length log) (Reading.size (reading builtins log)) x h) ∙ (quiet' x).1 in
-        and_left (is_behind (at_rows builtins rows starts) x) (circular (sheet_of builtins rows) x || not (list_any (is_behind (at_rows builtins rows starts)) (needed (sheet_of builtins rows) x))) calm)
+    let calm : is_behind (of_log builtins rows starts log) x ≡ false = sym (due_behind builtins rows state.plain starts (length log) (Reading.size (reading builtins log)) x h) ∙ (quiet' x).1 in
+    and_left (is_behind (at_rows builtins rows starts) x) (circular (sheet_of builtins rows) x || not (list_any (is_behind (at_rows builtins rows starts)) (needed (sheet_of builtins rows) x))) calm)

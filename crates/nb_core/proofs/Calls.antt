@@ -114,7 +114,7 @@ module _ (builtins : List (Field Value)) (rows : List VarRow) (starts : List (Op
         let told = next_outcome (at_rows builtins rows starts) v in
         let row = ready_row builtins rows starts log core v ready_here in
         let is_next : done_outcome done ≡ told =
-          done_next (of_log builtins rows starts log) v done (cell_body builtins rows core.state.plain v row.0 row.1) (subst (λ (r : Reading). IsOf (work_of r v) done) (sym here) work) in
+        done_next (of_log builtins rows starts log) v done (cell_body builtins rows core.state.plain v row.0 row.1) (subst (λ (r : Reading). IsOf (work_of r v) done) (sym here) work) in
         let new_starts : starts' ≡ put starts v (Some (showing_start told started.0)) = shows started.0 started.1 ∙ ap (λ (o : Outcome). put starts v (Some (showing_start o started.0))) (ys ∙ is_next) in
         let new_log : log' ≡ log ++ shown_entry v told ∷ [] = logs ∙ ap (λ (o : Outcome). log ++ shown_entry v o ∷ []) (xs ∙ is_next) in
         let c = completed builtins rows starts log core v ready_here in

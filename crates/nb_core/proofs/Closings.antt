@@ -40,23 +40,23 @@ fewer_unstarted p builtins rows starts log state v first below settled =
     let news : Start = new_start (length log + 1) (footing (at_rows builtins rows starts) v) in
     -- v has one now
     let since : is_since p (at_rows builtins rows (begun builtins rows starts (length log) v)) v ≡ true =
-      ap (λ (o : Option (Option Start)). from_option false (λ (s : Start). ltb p s.number) (option_then o (λ s. s))) (nth_put_same starts v there.0 (Some news) there.1)
-      ∙ lt-ltb p (length log + 1) (omega arith) in
+    ap (λ (o : Option (Option Start)). from_option false (λ (s : Start). ltb p s.number) (option_then o (λ s. s))) (nth_put_same starts v there.0 (Some news) there.1)
+    ∙ lt-ltb p (length log + 1) (omega arith) in
     -- and had none
     let m = may_v builtins rows starts log state v first in
     let due_v : due (of_log builtins rows starts log) v ≡ true = (may_start_cases (of_log builtins rows starts log) v m.0).0 in
     let not_since : before v ≡ true = elim (cases_Bool (is_since p (at_rows builtins rows starts) v)) [
-      inl yes_since ↦ absurd (false≢true (sym (settled v yes_since).0 ∙ due_v))
-    | inr no_since ↦ ap not no_since
+      | inl yes_since ↦ absurd (false≢true (sym (settled v yes_since).0 ∙ due_v))
+      | inr no_since ↦ ap not no_since
     ] in
     let weaker : (x : ℕ) → has (numbers rows) x ≡ true → later x ≡ true → before x ≡ true = λ x h l. elim (cases_eq v x) [
-      inl same ↦ ap before (sym same) ∙ not_since
-    | inr other ↦ ap (λ (o : Option (Option Start)). not (from_option false (λ (s : Start). ltb p s.number) (option_then o (λ s. s)))) (sym (nth_put_other starts v x (Some news) other)) ∙ l
+      | inl same ↦ ap before (sym same) ∙ not_since
+      | inr other ↦ ap (λ (o : Option (Option Start)). not (from_option false (λ (s : Start). ltb p s.number) (option_then o (λ s. s)))) (sym (nth_put_other starts v x (Some news) other)) ∙ l
     ] in
     let both : (passing later (numbers rows) ≤ passing before (numbers rows)) × ((passing later (numbers rows) < passing before (numbers rows)) ⊎ Same later before (numbers rows)) = passing_more later before (numbers rows) weaker in
     elim both.1 [
-      inl less ↦ less
-    | inr same ↦ absurd (false≢true (sym (ap not since) ∙ same v m.1 not_since))
+      | inl less ↦ less
+      | inr same ↦ absurd (false≢true (sym (ap not since) ∙ same v m.1 not_since))
     ]
 
 -- ---- the whole closing
@@ -101,9 +101,9 @@ closing_goes_on builtins rows starts log0 log c v first =
         es ++ Pending v [] ∷ [],
         ap (λ (l : List Entry). l ++ Pending v [] ∷ []) c.so_far.1 ∙ append_assoc log0 es (Pending v [] ∷ []),
         subst (λ (q : Reading). ClosesTo (reading builtins log0) (es ++ Pending v [] ∷ []) q)
-        (sym (read_append (nothing_yet builtins) log (Pending v [] ∷ [])))
-        (closes_push (reading builtins log0) (reading builtins log) es (Pending v []) c.so_far.2
-          (ap closing c.state.stands ∙ next_closing builtins rows starts log c.state v first)),
+            (sym (read_append (nothing_yet builtins) log (Pending v [] ∷ [])))
+            (closes_push (reading builtins log0) (reading builtins log) es (Pending v []) c.so_far.2
+            (ap closing c.state.stands ∙ next_closing builtins rows starts log c.state v first)),
       );
     }
 
@@ -129,8 +129,7 @@ pub turn : (builtins : List (Field Value)) (rows : List VarRow) (starts starts' 
     → log' ≡ log ++ Pending v [] ∷ [] → starts' ≡ begun builtins rows starts (length log) v
     → IsClosing builtins rows starts' log0 log' × (unstarted (length log0) rows starts' < unstarted (length log0) rows starts)
 turn builtins rows starts starts' log0 log log' c v first logs begins =
-    let longer : length log0 ≤ length log = omega (arith, ap length c.so_far.1, length-append log0 c.so_far.0) in
-    (
+    let longer : length log0 ≤ length log = omega (arith, ap length c.so_far.1, length-append log0 c.so_far.0) in (
       subst (λ (ss : List (Option Start)). IsClosing builtins rows ss log0 log') (sym begins) (subst (λ (l : List Entry). IsClosing builtins rows (begun builtins rows starts (length log) v) log0 l) (sym logs) (closing_goes_on builtins rows starts log0 log c v first)),
       subst (λ (ss : List (Option Start)). unstarted (length log0) rows ss < unstarted (length log0) rows starts) (sym begins) (fewer_unstarted (length log0) builtins rows starts log c.state v first longer c.settled),
     )

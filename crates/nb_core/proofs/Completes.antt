@@ -70,6 +70,7 @@ module _ (builtins : List (Field Value)) (rows : List VarRow) (starts : List (Op
     where
       change : (o : Outcome) → option_then (start_of (reading_of builtins rows starts n size) v) (λ s. Some (showing (reading_of builtins rows starts n size) v o s)) ≡ Some (showing_start o s)
       change o = ap (λ (z : Option (Option Start)). option_then (option_then z (λ s. s)) (λ s. Some (showing (reading_of builtins rows starts n size) v o s))) at ∙ ap (λ (s : Start). Some s) (showing_is o s bare)
+
       go : (o : Outcome) → after (reading_of builtins rows starts n size) (shown_entry v o) ≡ reading_of builtins rows (put starts v (Some (showing_start o s))) (n + 1) (size + entry_size (shown_entry v o))
       go (Shows x) = ap (λ (y : Option Start). reading_of builtins rows (put starts v y) (n + 1) (size + entry_size (Fulfilled v x))) (change (Shows x))
       go (Fails e) = ap (λ (y : Option Start). reading_of builtins rows (put starts v y) (n + 1) (size + entry_size (Rejected v e))) (change (Fails e))
@@ -89,10 +90,10 @@ module _ (builtins : List (Field Value)) (rows : List VarRow) (starts : List (Op
   same_start : (w : ℕ) (A : Type 0) (f : Option Start → A) → f (Some (showing_start o s)) ≡ f (Some s) → f (start_of (at_rows builtins rows after') w) ≡ f (start_of (at_rows builtins rows starts) w)
   same_start w A f e =
       elim (cases_eq v w) [
-        inl same ↦ subst (λ (x : ℕ). f (start_of (at_rows builtins rows after') x) ≡ f (start_of (at_rows builtins rows starts) x)) same
-          (ap (λ (z : Option (Option Start)). f (option_then z (λ s. s))) (nth_put_same starts v (Some s) (Some (showing_start o s)) at) ∙ e
-           ∙ sym (ap (λ (z : Option (Option Start)). f (option_then z (λ s. s))) at))
-      | inr other ↦ ap (λ (z : Option (Option Start)). f (option_then z (λ s. s))) (nth_put_other starts v w (Some (showing_start o s)) other)
+        | inl same ↦ subst (λ (x : ℕ). f (start_of (at_rows builtins rows after') x) ≡ f (start_of (at_rows builtins rows starts) x)) same
+            (ap (λ (z : Option (Option Start)). f (option_then z (λ s. s))) (nth_put_same starts v (Some s) (Some (showing_start o s)) at) ∙ e
+            ∙ sym (ap (λ (z : Option (Option Start)). f (option_then z (λ s. s))) at))
+        | inr other ↦ ap (λ (z : Option (Option Start)). f (option_then z (λ s. s))) (nth_put_other starts v w (Some (showing_start o s)) other)
       ]
 
   same_renewal : (w : ℕ) → renewal (at_rows builtins rows after') w ≡ renewal (at_rows builtins rows starts) w
@@ -132,25 +133,25 @@ module _ (builtins : List (Field Value)) (rows : List VarRow) (starts : List (Op
       let bare : IsBare (length log) s = state.bare v s at in
       record {
         stands = stands_after builtins rows rows starts (put starts v (Some (showing_start o s))) log (shown_entry v o) (Reading.size (reading builtins log) + entry_size (shown_entry v o)) state.stands
-          (after_shown builtins rows starts (length log) (Reading.size (reading builtins log)) v cells_v o s at bare);
+            (after_shown builtins rows starts (length log) (Reading.size (reading builtins log)) v cells_v o s at bare);
         legal = legal_append (nothing_yet builtins) log (shown_entry v o ∷ []) state.legal (fits_shown (reading builtins log) v o (quiet, is_ready, entry_next), tt);
         plain = state.plain;
         bare = λ w t there. subst (λ (m : ℕ). IsBare m t) (sym len) (elim (cases_eq v w) [
-          inl same ↦
-            let e : Some (Some (showing_start o s)) ≡ Some (Some t) = sym (nth_put_same starts v (Some s) (Some (showing_start o s)) at) ∙ (ap (nth (put starts v (Some (showing_start o s)))) same ∙ there) in
-            let f : showing_start o s ≡ t = same_Some (showing_start o s) t (same_Some (Some (showing_start o s)) (Some t) e) in
-            subst (IsBare (length log + 1)) f (record { number = omega (arith, bare.number); answers = bare.answers; owed = bare.owed; pulls = bare.pulls; ended = bare.ended; fresh = λ h. absurd (false≢true h) })
-        | inr other ↦
-          let b : IsBare (length log) t = state.bare w t (sym (nth_put_other starts v w (Some (showing_start o s)) other) ∙ there) in
-          record { number = omega (arith, b.number); answers = b.answers; owed = b.owed; pulls = b.pulls; ended = b.ended; fresh = b.fresh }
+          | inl same ↦
+              let e : Some (Some (showing_start o s)) ≡ Some (Some t) = sym (nth_put_same starts v (Some s) (Some (showing_start o s)) at) ∙ (ap (nth (put starts v (Some (showing_start o s)))) same ∙ there) in
+              let f : showing_start o s ≡ t = same_Some (showing_start o s) t (same_Some (Some (showing_start o s)) (Some t) e) in
+              subst (IsBare (length log + 1)) f (record { number = omega (arith, bare.number); answers = bare.answers; owed = bare.owed; pulls = bare.pulls; ended = bare.ended; fresh = λ h. absurd (false≢true h) })
+          | inr other ↦
+              let b : IsBare (length log) t = state.bare w t (sym (nth_put_other starts v w (Some (showing_start o s)) other) ∙ there) in
+              record { number = omega (arith, b.number); answers = b.answers; owed = b.owed; pulls = b.pulls; ended = b.ended; fresh = b.fresh }
         ]);
         same_len = length_put starts v (Some (showing_start o s)) ∙ state.same_len;
         local =
-          let r = of_log builtins rows starts log in
-          let h : ready r v ≡ true = sym (ap (λ (r : Reading). ready r v) state.stands) ∙ is_ready in
-          let t : (is_running r v ≡ true) × ((duplicate r.sheet v || circular r.sheet v || list_all (λ u. is_some (shown r u)) (direct r.sheet v)) ≡ true) =
+            let r = of_log builtins rows starts log in
+            let h : ready r v ≡ true = sym (ap (λ (r : Reading). ready r v) state.stands) ∙ is_ready in
+            let t : (is_running r v ≡ true) × ((duplicate r.sheet v || circular r.sheet v || list_all (λ u. is_some (shown r u)) (direct r.sheet v)) ≡ true) =
             and_parts (is_running r v) (duplicate r.sheet v || circular r.sheet v || list_all (λ u. is_some (shown r u)) (direct r.sheet v)) h in
-          let runs : s.running ≡ true = sym (ap (λ (o : Option (Option Start)). from_option false (λ (s : Start). s.running) (option_then o (λ s. s))) at) ∙ t.0 in
-          subst (IsLocal builtins rows (put starts v (Some (showing_start o s)))) (sym len)
-          (local_shown builtins rows starts (length log) v s at bare.fresh runs cells_v t.1 (calm_state builtins rows starts log state quiet) state.local);
+            let runs : s.running ≡ true = sym (ap (λ (o : Option (Option Start)). from_option false (λ (s : Start). s.running) (option_then o (λ s. s))) at) ∙ t.0 in
+            subst (IsLocal builtins rows (put starts v (Some (showing_start o s)))) (sym len)
+            (local_shown builtins rows starts (length log) v s at bare.fresh runs cells_v t.1 (calm_state builtins rows starts log state quiet) state.local);
       }

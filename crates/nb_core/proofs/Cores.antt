@@ -57,8 +57,7 @@ pub refused : (builtins : List (Field Value)) (rows : List VarRow) (starts : Lis
     → IsCore builtins rows starts (log ++ Refused editor reason event ∷ []) × Gains (history builtins log) (admit (reading builtins log) editor event) (history builtins (log ++ Refused editor reason event ∷ []))
 refused builtins rows starts log core editor low reason event admits =
     let e = Refused editor reason event in
-    let quiet' = quiet_refused builtins rows starts log core.state core.quiet editor low reason event admits in
-    (
+    let quiet' = quiet_refused builtins rows starts log core.state core.quiet editor low reason event admits in (
       record { state = state_refused builtins rows starts log core.state core.quiet editor low reason event admits; quiet = quiet'; few = core.few },
       record {
         builtins = refl;
@@ -74,20 +73,19 @@ pub added : (builtins : List (Field Value)) (rows : List VarRow) (starts starts'
     → (editor : ℕ) (cell : Cell) → admit (reading builtins log) editor (adding cell) ≡ Edit editor (AddCell 0 cell true) → length rows < 1024
     → IsClosed builtins (rows ++ row_of cell (length log + 1) ∷ []) starts' (log ++ Edit editor (AddCell 0 cell true) ∷ []) es
     → IsCore builtins (rows ++ row_of cell (length log + 1) ∷ []) starts' (log ++ Edit editor (AddCell 0 cell true) ∷ es)
-      × Gains (history builtins log) (admit (reading builtins log) editor (adding cell)) (history builtins (log ++ Edit editor (AddCell 0 cell true) ∷ es))
+    × Gains (history builtins log) (admit (reading builtins log) editor (adding cell)) (history builtins (log ++ Edit editor (AddCell 0 cell true) ∷ es))
 added builtins rows starts starts' log es core editor cell admits few c =
     let e = Edit editor (AddCell 0 cell true) in
     let rows' = rows ++ row_of cell (length log + 1) ∷ [] in
-    let joined : (log ++ e ∷ []) ++ es ≡ log ++ e ∷ es = append_assoc log (e ∷ []) es in
-    (
+    let joined : (log ++ e ∷ []) ++ es ≡ log ++ e ∷ es = append_assoc log (e ∷ []) es in (
       subst (λ (l : List Entry). IsCore builtins rows' starts' l) joined
-      (record { state = c.state; quiet = c.quiet; few = omega (arith, few, length-append rows (row_of cell (length log + 1) ∷ [])) }),
+          (record { state = c.state; quiet = c.quiet; few = omega (arith, few, length-append rows (row_of cell (length log + 1) ∷ [])) }),
       record {
         builtins = refl;
         es = es;
         longer = ap (λ (x : Entry). log ++ x ∷ es) (sym admits);
         closes = subst (λ (x : Entry). Closes (after (reading builtins log) x) es) (sym admits)
-          (subst (λ (r : Reading). Closes r es) (read_append (nothing_yet builtins) log (e ∷ [])) c.closes);
+            (subst (λ (r : Reading). Closes r es) (read_append (nothing_yet builtins) log (e ∷ [])) c.closes);
       },
     )
 
@@ -133,13 +131,13 @@ module _ (builtins : List (Field Value)) (rows : List VarRow) (starts : List (Op
       let later : ℕ → Bool = is_running (at_rows builtins rows starts') in
       let stopped : later v ≡ false = ap (λ (o : Option (Option Start)). from_option false (λ (s : Start). s.running) (option_then o (λ s. s))) (nth_put_same starts v (Some s) (Some (showing_start told s)) ready_started.1) in
       let weaker : (x : ℕ) → has (numbers rows) x ≡ true → later x ≡ true → before x ≡ true = λ x h l. elim (cases_eq v x) [
-        inl e ↦ absurd (false≢true (sym stopped ∙ (ap later e ∙ l)))
-      | inr other ↦ ap (λ (o : Option (Option Start)). from_option false (λ (s : Start). s.running) (option_then o (λ s. s))) (sym (nth_put_other starts v x (Some (showing_start told s)) other)) ∙ l
+        | inl e ↦ absurd (false≢true (sym stopped ∙ (ap later e ∙ l)))
+        | inr other ↦ ap (λ (o : Option (Option Start)). from_option false (λ (s : Start). s.running) (option_then o (λ s. s))) (sym (nth_put_other starts v x (Some (showing_start told s)) other)) ∙ l
       ] in
       let both : (passing later (numbers rows) ≤ passing before (numbers rows)) × ((passing later (numbers rows) < passing before (numbers rows)) ⊎ Same later before (numbers rows)) = passing_more later before (numbers rows) weaker in
       let less : passing later (numbers rows) < passing before (numbers rows) = elim both.1 [
-        inl l ↦ l
-      | inr same_tests ↦ absurd (false≢true (sym stopped ∙ same_tests v (has_number rows v ready_row.0 ready_row.1) runs))
+        | inl l ↦ l
+        | inr same_tests ↦ absurd (false≢true (sym stopped ∙ same_tests v (has_number rows v ready_row.0 ready_row.1) runs))
       ] in
       subst (λ (m : ℕ). m < running (history builtins log)) (sym (running_as starts' log' state'))
       (subst (λ (m : ℕ). passing later (numbers rows) < m) (sym (running_as starts log core.state)) less)
@@ -152,12 +150,11 @@ module _ (builtins : List (Field Value)) (rows : List VarRow) (starts : List (Op
       let s = ready_started.0 in
       let e = shown_entry v told in
       let state' : IsState builtins rows starts' (log ++ shown_entry v told ∷ []) =
-        state_shown builtins rows starts log core.state v ready_row.0 s ready_row.1 ready_started.1 core.quiet.1 is_ready in
+      state_shown builtins rows starts log core.state v ready_row.0 s ready_row.1 ready_started.1 core.quiet.1 is_ready in
       let none : first_where (may_begin (at_rows builtins rows starts')) (numbers rows) ≡ None =
-        still_none builtins rows starts v told s ready_started.1 (begins_none builtins rows starts log core.state core.quiet.1) in
+      still_none builtins rows starts v told s ready_started.1 (begins_none builtins rows starts log core.state core.quiet.1) in
       let quiet' = state_quiet builtins rows starts' (log ++ shown_entry v told ∷ []) state' none in
-      let is_next : shown_entry v told ≡ next (reading builtins log) v = entry_next builtins rows starts log core.state v ready_row.0 s ready_row.1 ready_started.1 in
-      (
+      let is_next : shown_entry v told ≡ next (reading builtins log) v = entry_next builtins rows starts log core.state v ready_row.0 s ready_row.1 ready_started.1 in (
         record { state = state'; quiet = quiet'; few = core.few },
         record {
           builtins = refl;
@@ -177,12 +174,12 @@ nothing_there (suc i) x h = none-some x h
 pub core_begins : (builtins : List (Field Value)) → IsCore builtins [] [] []
 core_begins builtins =
     let state : IsState builtins [] [] [] =
-      record {
-        stands = refl;
-        legal = tt;
-        plain = λ v row h. absurd (nothing_there v row h);
-        bare = λ v s h. absurd (nothing_there v (Some s) h);
-        same_len = refl;
-        local = record { small = λ v s h. absurd (nothing_there v (Some s) h); shows = λ v s h. absurd (nothing_there v (Some s) h) };
-      } in
+    record {
+      stands = refl;
+      legal = tt;
+      plain = λ v row h. absurd (nothing_there v row h);
+      bare = λ v s h. absurd (nothing_there v (Some s) h);
+      same_len = refl;
+      local = record { small = λ v s h. absurd (nothing_there v (Some s) h); shows = λ v s h. absurd (nothing_there v (Some s) h) };
+    } in
     record { state = state; quiet = state_quiet builtins [] [] [] state refl; few = omega arith }

@@ -51,9 +51,11 @@ module _ (builtins : List (Field Value)) (rows : List VarRow) (starts : List (Op
       (event_here (adding form.0) ∙ admit_many builtins rows starts log core.state editor form.0 (omega (arith, room, size_total builtins log)) many)
 
   pub told_edit : (event : Event) → IsAddedCell event → total_size log ≤ 4000000 → length rows < 1024 → IsAdmitted (standing self) editor event
-  told_edit event form room few =
-      (AddCell 0 form.0 true, form.1,
-        ap (admit (standing self) editor) form.1 ∙ event_here (adding form.0) ∙ admit_edit builtins rows starts log core.state editor form.0 (omega (arith, room, size_total builtins log)) few)
+  told_edit event form room few = (
+    AddCell 0 form.0 true,
+    form.1,
+    ap (admit (standing self) editor) form.1 ∙ event_here (adding form.0) ∙ admit_edit builtins rows starts log core.state editor form.0 (omega (arith, room, size_total builtins log)) few,
+  )
 
   module _ (low : editor < 8) (event : Event) (cell : Cell) (is : event ≡ adding cell) (admitted : IsAdmitted (standing self) editor event) (place : ℕ) (at : place ≡ length log + 1) where
     cell_here : admitted.0 ≡ AddCell 0 cell true
@@ -83,9 +85,9 @@ module _ (builtins : List (Field Value)) (rows : List VarRow) (starts : List (Op
         let new = Edit editor (AddCell 0 cell true) in
         let entry_is : entry ≡ new = entries (AddCell 0 cell true) is in
         let closed : IsClosed builtins (rows ++ row_of cell (length log + 1) ∷ []) starts' (log ++ new ∷ []) es =
-          subst (λ (n : ℕ). IsClosed builtins (rows ++ row_of cell n ∷ []) starts' (log ++ new ∷ []) es) at
-          (closes (log ++ new ∷ []) place_len
-            (subst (λ (xs : List (Option Start)). IsState builtins (rows ++ row_of cell place ∷ []) (xs ++ None ∷ []) (log ++ new ∷ [])) (sym e) added_state)) in
+        subst (λ (n : ℕ). IsClosed builtins (rows ++ row_of cell n ∷ []) starts' (log ++ new ∷ []) es) at
+        (closes (log ++ new ∷ []) place_len
+        (subst (λ (xs : List (Option Start)). IsState builtins (rows ++ row_of cell place ∷ []) (xs ++ None ∷ []) (log ++ new ∷ [])) (sym e) added_state)) in
         let new_log : log' ≡ log ++ new ∷ es = logs ∙ ap (λ (x : Entry). (log ++ x ∷ []) ++ es) entry_is ∙ append_assoc log (new ∷ []) es in
         let new_rows : rows' ≡ rows ++ row_of cell (length log + 1) ∷ [] = news ∙ ap (λ (n : ℕ). rows ++ row_of cell n ∷ []) at in
         let c = added builtins rows starts starts' log es core editor cell admits few closed in

@@ -94,8 +94,10 @@ module _ (builtins : List (Field Value)) (rows : List VarRow) (starts : List (Op
     where
       now : IsQuiet (of_log builtins rows starts log)
       now = subst IsQuiet state.stands quiet
+
       here : ((not (wanted (at_rows builtins rows starts) v) && not (is_idle (start_of (at_rows builtins rows starts) v))) ≡ false) × ((wanted (at_rows builtins rows starts) v && is_behind (at_rows builtins rows starts) v) ≡ false)
       here = now v
+
       go : (w : Bool) (z : Option (Option Start)) → wanted (at_rows builtins rows starts) v ≡ w → nth starts v ≡ z
           → (not (wanted (at_rows builtins rows starts) v) && not (is_idle (start_of (at_rows builtins rows starts) v))) ≡ false
           → (wanted (at_rows builtins rows starts) v && is_behind (at_rows builtins rows starts) v) ≡ false
@@ -103,8 +105,8 @@ module _ (builtins : List (Field Value)) (rows : List VarRow) (starts : List (Op
       go false z p q left due = sym (ap (λ (w : Bool). not w && not (is_idle (start_of (at_rows builtins rows starts) v))) p) ∙ left ∙ sym p
       go true None p q left due =
           absurd (false≢true (sym (ap (λ (z : Option (Option Start)). from_option true (λ (s : Start). not (same_footing (footing (at_rows builtins rows starts) v) s.kept)) (option_then z (λ s. s))) (sym q)
-            ∙ sym (ap (λ (w : Bool). w && is_behind (at_rows builtins rows starts) v) p) ∙ due)))
+          ∙ sym (ap (λ (w : Bool). w && is_behind (at_rows builtins rows starts) v) p) ∙ due)))
       go true (Some None) p q left due =
           absurd (false≢true (sym (ap (λ (z : Option (Option Start)). from_option true (λ (s : Start). not (same_footing (footing (at_rows builtins rows starts) v) s.kept)) (option_then z (λ s. s))) (sym q)
-            ∙ sym (ap (λ (w : Bool). w && is_behind (at_rows builtins rows starts) v) p) ∙ due)))
+          ∙ sym (ap (λ (w : Bool). w && is_behind (at_rows builtins rows starts) v) p) ∙ due)))
       go true (Some (Some s)) p q left due = ap (λ (z : Option (Option Start)). not (is_idle (option_then z (λ s. s)))) q ∙ sym p

@@ -29,7 +29,6 @@ use Rattle.nb_syntax.specs.FreeNames.{free}
 use Rattle.nb_core.specs.State.{at as at_rows, Local, IsLocal, sheet_of, shown_in, renewal_in, begun, is_cell, ending_outcome, next_outcome, showing_start}
 use Rattle.nb_core.proofs.Locals.{nth_push}
 
-
 cons_parts : (a b : ℕ) (xs ys : List ℕ) → a ∷ xs ≡ b ∷ ys → (a ≡ b) × (xs ≡ ys)
 cons_parts a b xs ys h = (cc, cc)
 
@@ -40,7 +39,7 @@ same_codes : (f g : Name → Resolution) (ns : List Name) → map input_code (ma
 same_codes f g [] h = refl
 same_codes f g (n ∷ ns) h =
     let t : (resolution_code (f n) ≡ resolution_code (g n)) × (map input_code (map (paired f) ns) ≡ map input_code (map (paired g) ns)) =
-      cons_parts (resolution_code (f n)) (resolution_code (g n)) (map input_code (map (paired f) ns)) (map input_code (map (paired g) ns)) h in
+    cons_parts (resolution_code (f n)) (resolution_code (g n)) (map input_code (map (paired f) ns)) (map input_code (map (paired g) ns)) h in
     ap (λ (r : Resolution). let p : Name × Resolution = (n, r) in p ∷ map (paired f) ns) (code_eq (f n) (g n) t.0) ∙ ap (λ (xs : List (Name × Resolution)). paired g n ∷ xs) (same_codes f g ns t.1)
 
 same_body_inputs : (s q : Sheet) (m : ℕ) (b : Option BodyOf) → map input_code (inputs_of_body s m b) ≡ map input_code (inputs_of_body q m b) → inputs_of_body s m b ≡ inputs_of_body q m b
@@ -80,7 +79,7 @@ pub not_behind : (builtins : List (Field Value)) (rows : List VarRow) (starts : 
 not_behind builtins rows starts v s there calm =
     same_footing_eq (footing (at_rows builtins rows starts) v) s.kept
     (not-false (same_footing (footing (at_rows builtins rows starts) v) s.kept)
-      (sym (ap (λ (z : Option (Option Start)). behind_by (footing (at_rows builtins rows starts) v) (option_then z (λ s. s))) there) ∙ calm))
+    (sym (ap (λ (z : Option (Option Start)). behind_by (footing (at_rows builtins rows starts) v) (option_then z (λ s. s))) there) ∙ calm))
 
 -- a local value by what it rests on
 abbrev local_parts : List (Field Value) → Option CellError → List (Name × Resolution) → Option BodyOf → Option Start → (ℕ → Option Outcome) → Option Outcome
@@ -116,35 +115,35 @@ module _ (builtins : List (Field Value)) (rows : List VarRow) (starts : List (Op
       let codes : map input_code (inputs now v) ≡ map input_code (inputs old v) = ap (λ (f : Footing). f.inputs) kept in
       let at_row : (s : Sheet) → nth s.rows v ≡ Some row.0 → inputs s v ≡ inputs_of_row s row.0 = λ s e. ap (λ (o : Option VarRow). from_option [] (inputs_of_row s) o) e in
       let dup_row : is_duplicate_row now row.0 ≡ is_duplicate_row old row.0 =
-        sym (ap (λ (o : Option VarRow). from_option false (is_duplicate_row now) o) row') ∙ dup ∙ ap (λ (o : Option VarRow). from_option false (is_duplicate_row old) o) row.1 in
+      sym (ap (λ (o : Option VarRow). from_option false (is_duplicate_row now) o) row') ∙ dup ∙ ap (λ (o : Option VarRow). from_option false (is_duplicate_row old) o) row.1 in
       let ins : inputs now v ≡ inputs old v =
-        at_row now row' ∙ same_row_inputs now old row.0 dup_row (sym (ap (map input_code) (at_row now row')) ∙ codes ∙ ap (map input_code) (at_row old row.1)) ∙ sym (at_row old row.1) in
+      at_row now row' ∙ same_row_inputs now old row.0 dup_row (sym (ap (map input_code) (at_row now row')) ∙ codes ∙ ap (map input_code) (at_row old row.1)) ∙ sym (at_row old row.1) in
       let body : body_of now v ≡ body_of old v = ap (λ (o : Option VarRow). option_then o (λ (row : VarRow). row.body)) (row' ∙ sym row.1) in
       let named : name_of now v ≡ name_of old v = ap (λ (o : Option VarRow). from_option [] (λ (row : VarRow). from_option [] (λ n. n) row.name) o) (row' ∙ sym row.1) in
       let marks : marked_error now v ≡ marked_error old v =
-        ap (λ (b : Bool). cond b (Some (plain_error DefinedTwice (name_of now v))) (cond (circular now v) (Some (plain_error Circular (name_of now v))) None)) dup
-        ∙ ap (λ (b : Bool). cond (duplicate old v) (Some (plain_error DefinedTwice (name_of now v))) (cond b (Some (plain_error Circular (name_of now v))) None)) circ
-        ∙ ap (λ (m : Name). cond (duplicate old v) (Some (plain_error DefinedTwice m)) (cond (circular old v) (Some (plain_error Circular m)) None)) named in
+      ap (λ (b : Bool). cond b (Some (plain_error DefinedTwice (name_of now v))) (cond (circular now v) (Some (plain_error Circular (name_of now v))) None)) dup
+      ∙ ap (λ (b : Bool). cond (duplicate old v) (Some (plain_error DefinedTwice (name_of now v))) (cond b (Some (plain_error Circular (name_of now v))) None)) circ
+      ∙ ap (λ (m : Name). cond (duplicate old v) (Some (plain_error DefinedTwice m)) (cond (circular old v) (Some (plain_error Circular m)) None)) named in
       let before : Local builtins rows starts v = inv.shows v s there idle (calm v s there) in (
         λ unmarked u h. ap (λ (o : Option Outcome). is_some o) (shown_same u) ∙ before.0 (sym marks ∙ unmarked) u (sym (ap (λ (is : List (Name × Resolution)). has (filter_map variable_of is) u) ins) ∙ h),
         shown_same v ∙ before.1
-        ∙ sym (local_agree (at_rows builtins rows' more) (shown_in more) (shown_in starts) v (λ unmarked u h. shown_same u)
-          ∙ ap (λ (m : Option CellError). local_parts builtins m (inputs now v) (body_of now v) (start_of (at_rows builtins rows' more) v) (shown_in starts)) marks
-          ∙ ap (λ (is : List (Name × Resolution)). local_parts builtins (marked_error old v) is (body_of now v) (start_of (at_rows builtins rows' more) v) (shown_in starts)) ins
-          ∙ ap (λ (b : Option BodyOf). local_parts builtins (marked_error old v) (inputs old v) b (start_of (at_rows builtins rows' more) v) (shown_in starts)) body
-          ∙ ap (λ (z : Option Start). local_parts builtins (marked_error old v) (inputs old v) (body_of old v) z (shown_in starts)) (idle_push starts v)),
+            ∙ sym (local_agree (at_rows builtins rows' more) (shown_in more) (shown_in starts) v (λ unmarked u h. shown_same u)
+            ∙ ap (λ (m : Option CellError). local_parts builtins m (inputs now v) (body_of now v) (start_of (at_rows builtins rows' more) v) (shown_in starts)) marks
+            ∙ ap (λ (is : List (Name × Resolution)). local_parts builtins (marked_error old v) is (body_of now v) (start_of (at_rows builtins rows' more) v) (shown_in starts)) ins
+            ∙ ap (λ (b : Option BodyOf). local_parts builtins (marked_error old v) (inputs old v) b (start_of (at_rows builtins rows' more) v) (shown_in starts)) body
+            ∙ ap (λ (z : Option Start). local_parts builtins (marked_error old v) (inputs old v) (body_of old v) z (shown_in starts)) (idle_push starts v)),
       )
 
   pub local_added : IsLocal builtins rows starts n → IsLocal builtins rows' more (n + 1)
   local_added inv =
       record {
         small = λ v s there. elim (nth_push starts None v (Some s) there) [
-          inl old ↦ let p : (s.renewal ≤ n) × ((x : ℕ) → has s.kept.renewals x ≡ true → x ≤ n) = inv.small v s old in (omega (arith, p.0), λ x h. omega (arith, p.1 x h))
-        | inr same ↦ absurd (none-some s same)
+          | inl old ↦ let p : (s.renewal ≤ n) × ((x : ℕ) → has s.kept.renewals x ≡ true → x ≤ n) = inv.small v s old in (omega (arith, p.0), λ x h. omega (arith, p.1 x h))
+          | inr same ↦ absurd (none-some s same)
         ];
         shows = λ v s there idle still. elim (nth_push starts None v (Some s) there) [
-          inl old ↦ local_old inv v s old idle still
-        | inr same ↦ absurd (none-some s same)
+          | inl old ↦ local_old inv v s old idle still
+          | inr same ↦ absurd (none-some s same)
         ];
       }
 

@@ -55,21 +55,21 @@ pub transfer : (builtins : List (Field Value)) (rows : List VarRow) (starts star
     → (marked_error (sheet_of builtins rows) v ≡ None → (u : ℕ) → has (direct (sheet_of builtins rows) v) u ≡ true → shown_in starts' u ≡ shown_in starts u)
     → Local builtins rows starts v → Local builtins rows starts' v
 transfer builtins rows starts starts' v same agree old = (
-    λ unmarked u h. ap (λ (o : Option Outcome). is_some o) (agree unmarked u h) ∙ old.0 unmarked u h,
-    ap (λ (z : Option (Option Start)). option_then (option_then z (λ s. s)) (λ s. s.shown)) same
-    ∙ old.1
-    ∙ sym (local_agree (at_rows builtins rows starts) (shown_in starts') (shown_in starts) v agree)
-    ∙ sym (ap (λ (z : Option (Option Start)). local_by builtins rows z (shown_in starts') v) same),
-  )
+  λ unmarked u h. ap (λ (o : Option Outcome). is_some o) (agree unmarked u h) ∙ old.0 unmarked u h,
+  ap (λ (z : Option (Option Start)). option_then (option_then z (λ s. s)) (λ s. s.shown)) same
+      ∙ old.1
+      ∙ sym (local_agree (at_rows builtins rows starts) (shown_in starts') (shown_in starts) v agree)
+      ∙ sym (ap (λ (z : Option (Option Start)). local_by builtins rows z (shown_in starts') v) same),
+)
 
 -- ---- a `pending` entry
 
 has_map : (f : ℕ → ℕ) (xs : List ℕ) (u : ℕ) → has xs u ≡ true → has (map f xs) (f u) ≡ true
 has_map f [] u h = absurd (false≢true h)
 has_map f (x ∷ xs) u h = elim (has_cases x xs u h) [
-    inl same ↦ has_head (f x) (map f xs) (f u) (ap f same)
+  | inl same ↦ has_head (f x) (map f xs) (f u) (ap f same)
   | inr later ↦ has_tail (f x) (map f xs) (f u) (has_map f xs u later)
-  ]
+]
 
 module _ (builtins : List (Field Value)) (rows : List VarRow) (starts : List (Option Start)) (n u : ℕ) (o : Option Start) (at : nth starts u ≡ Some o) where
   abbrev fresh : Start
@@ -92,23 +92,23 @@ module _ (builtins : List (Field Value)) (rows : List VarRow) (starts : List (Op
   kept_now starts v s there calm =
       same_footing_eq (footing (at_rows builtins rows starts) v) s.kept
       (not-false (same_footing (footing (at_rows builtins rows starts) v) s.kept)
-        (sym (ap (λ (z : Option (Option Start)). behind_by (footing (at_rows builtins rows starts) v) (option_then z (λ s. s))) there) ∙ calm))
+      (sym (ap (λ (z : Option (Option Start)). behind_by (footing (at_rows builtins rows starts) v) (option_then z (λ s. s))) there) ∙ calm))
 
   local_pending : IsLocal builtins rows starts n → (v : ℕ) (s : Start) → u ≢ v → nth starts v ≡ Some (Some s) → s.running ≡ false → is_behind (at_rows builtins rows starts') v ≡ false → Local builtins rows starts' v
   local_pending inv v s other there idle calm =
       let same : nth starts' v ≡ nth starts v = nth_put_other starts u v (Some fresh) other in
       elim (cases_Bool (circular (sheet_of builtins rows) v)) [
-        inl c ↦ finish same (λ k. absurd (false≢true (sym k ∙ c))) (λ unmarked. absurd (false≢true (sym (not_circular (sheet_of builtins rows) v unmarked) ∙ c)))
-      | inr c ↦ elim (cases_Bool (has (direct (sheet_of builtins rows) v) u)) [
-          inr apart ↦ finish same (λ _. apart) (λ unmarked w h. shown_else w (λ e. false≢true (sym apart ∙ (ap (has (direct (sheet_of builtins rows) v)) e ∙ h))))
-        | inl an_input ↦
-          -- then v rests on the new renewal, which no kept footing has
-          let kept : footing (at_rows builtins rows starts') v ≡ s.kept = kept_now starts' v s (same ∙ there) calm in
-          let renewals : map (renewal_in starts') (direct (sheet_of builtins rows) v) ≡ s.kept.renewals =
-            sym (ap (λ (b : Bool). cond b [] (map (renewal_in starts') (direct (sheet_of builtins rows) v))) c) ∙ ap (λ (f : Footing). f.renewals) kept in
-          let in_it : has s.kept.renewals (n + 1) ≡ true =
-            subst (λ (xs : List ℕ). has xs (n + 1) ≡ true) renewals (subst (λ (x : ℕ). has (map (renewal_in starts') (direct (sheet_of builtins rows) v)) x ≡ true) renewal_u (has_map (renewal_in starts') (direct (sheet_of builtins rows) v) u an_input)) in
-          absurd (omega (arith, (inv.small v s there).1 (n + 1) in_it))
+        | inl c ↦ finish same (λ k. absurd (false≢true (sym k ∙ c))) (λ unmarked. absurd (false≢true (sym (not_circular (sheet_of builtins rows) v unmarked) ∙ c)))
+        | inr c ↦ elim (cases_Bool (has (direct (sheet_of builtins rows) v) u)) [
+          | inr apart ↦ finish same (λ _. apart) (λ unmarked w h. shown_else w (λ e. false≢true (sym apart ∙ (ap (has (direct (sheet_of builtins rows) v)) e ∙ h))))
+          | inl an_input ↦
+              -- then v rests on the new renewal, which no kept footing has
+              let kept : footing (at_rows builtins rows starts') v ≡ s.kept = kept_now starts' v s (same ∙ there) calm in
+              let renewals : map (renewal_in starts') (direct (sheet_of builtins rows) v) ≡ s.kept.renewals =
+              sym (ap (λ (b : Bool). cond b [] (map (renewal_in starts') (direct (sheet_of builtins rows) v))) c) ∙ ap (λ (f : Footing). f.renewals) kept in
+              let in_it : has s.kept.renewals (n + 1) ≡ true =
+              subst (λ (xs : List ℕ). has xs (n + 1) ≡ true) renewals (subst (λ (x : ℕ). has (map (renewal_in starts') (direct (sheet_of builtins rows) v)) x ≡ true) renewal_u (has_map (renewal_in starts') (direct (sheet_of builtins rows) v) u an_input)) in
+              absurd (omega (arith, (inv.small v s there).1 (n + 1) in_it))
         ]
       ]
     where
@@ -116,9 +116,9 @@ module _ (builtins : List (Field Value)) (rows : List VarRow) (starts : List (Op
           → (marked_error (sheet_of builtins rows) v ≡ None → (w : ℕ) → has (direct (sheet_of builtins rows) v) w ≡ true → shown_in starts' w ≡ shown_in starts w) → Local builtins rows starts' v
       finish same apart agree =
           let footings : footing (at_rows builtins rows starts') v ≡ footing (at_rows builtins rows starts) v =
-            footing_agree (sheet_of builtins rows) (renewal_in starts') (renewal_in starts) v (λ k x h. renewal_else x (λ e. false≢true (sym (apart k) ∙ (ap (has (direct (sheet_of builtins rows) v)) e ∙ h)))) in
+          footing_agree (sheet_of builtins rows) (renewal_in starts') (renewal_in starts) v (λ k x h. renewal_else x (λ e. false≢true (sym (apart k) ∙ (ap (has (direct (sheet_of builtins rows) v)) e ∙ h)))) in
           let calm_before : is_behind (at_rows builtins rows starts) v ≡ false =
-            sym (ap (λ (f : Footing). behind_by f (start_of (at_rows builtins rows starts') v)) footings ∙ ap (λ (z : Option (Option Start)). behind_by (footing (at_rows builtins rows starts) v) (option_then z (λ s. s))) same) ∙ calm in
+          sym (ap (λ (f : Footing). behind_by f (start_of (at_rows builtins rows starts') v)) footings ∙ ap (λ (z : Option (Option Start)). behind_by (footing (at_rows builtins rows starts) v) (option_then z (λ s. s))) same) ∙ calm in
           transfer builtins rows starts starts' v same agree (inv.shows v s there idle calm_before)
 
   renewal_small : IsLocal builtins rows starts n → (x : ℕ) → renewal_in starts x ≤ n
@@ -132,34 +132,34 @@ module _ (builtins : List (Field Value)) (rows : List VarRow) (starts : List (Op
   map_small : IsLocal builtins rows starts n → (xs : List ℕ) (x : ℕ) → has (map (renewal_in starts) xs) x ≡ true → x ≤ n
   map_small inv [] x h = absurd (false≢true h)
   map_small inv (w ∷ xs) x h = elim (has_cases (renewal_in starts w) (map (renewal_in starts) xs) x h) [
-      inl same ↦ subst (λ (m : ℕ). m ≤ n) same (renewal_small inv w)
+    | inl same ↦ subst (λ (m : ℕ). m ≤ n) same (renewal_small inv w)
     | inr later ↦ map_small inv xs x later
-    ]
+  ]
 
   fresh_small : IsLocal builtins rows starts n → (x : ℕ) → has (cond (circular (sheet_of builtins rows) u) [] (map (renewal_in starts) (direct (sheet_of builtins rows) u))) x ≡ true → x ≤ n
   fresh_small inv x h = elim (cases_Bool (circular (sheet_of builtins rows) u)) [
-      inl c ↦ absurd (false≢true (rw c at h))
+    | inl c ↦ absurd (false≢true (rw c at h))
     | inr c ↦ map_small inv (direct (sheet_of builtins rows) u) x (rw c at h)
-    ]
+  ]
 
   pub local_begun : IsLocal builtins rows starts n → IsLocal builtins rows starts' (n + 1)
   local_begun inv =
       record {
         small = λ v s there. elim (cases_eq u v) [
-          inl same ↦
-            let e : Some (Some fresh) ≡ Some (Some s) = sym (nth_put_same starts u o (Some fresh) at) ∙ (ap (nth starts') same ∙ there) in
-            let f : fresh ≡ s = same_Some fresh s (same_Some (Some fresh) (Some s) e) in
-            subst (λ (t : Start). (t.renewal ≤ n + 1) × ((x : ℕ) → has t.kept.renewals x ≡ true → x ≤ n + 1)) f (omega arith, λ x h. omega (arith, fresh_small inv x h))
-        | inr other ↦
-          let p : (s.renewal ≤ n) × ((x : ℕ) → has s.kept.renewals x ≡ true → x ≤ n) = inv.small v s (sym (nth_put_other starts u v (Some fresh) other) ∙ there) in
-          (omega (arith, p.0), λ x h. omega (arith, p.1 x h))
+          | inl same ↦
+              let e : Some (Some fresh) ≡ Some (Some s) = sym (nth_put_same starts u o (Some fresh) at) ∙ (ap (nth starts') same ∙ there) in
+              let f : fresh ≡ s = same_Some fresh s (same_Some (Some fresh) (Some s) e) in
+              subst (λ (t : Start). (t.renewal ≤ n + 1) × ((x : ℕ) → has t.kept.renewals x ≡ true → x ≤ n + 1)) f (omega arith, λ x h. omega (arith, fresh_small inv x h))
+          | inr other ↦
+              let p : (s.renewal ≤ n) × ((x : ℕ) → has s.kept.renewals x ≡ true → x ≤ n) = inv.small v s (sym (nth_put_other starts u v (Some fresh) other) ∙ there) in
+              (omega (arith, p.0), λ x h. omega (arith, p.1 x h))
         ];
         shows = λ v s there idle calm. elim (cases_eq u v) [
-          inl same ↦
-            let e : Some (Some fresh) ≡ Some (Some s) = sym (nth_put_same starts u o (Some fresh) at) ∙ (ap (nth starts') same ∙ there) in
-            let f : fresh ≡ s = same_Some fresh s (same_Some (Some fresh) (Some s) e) in
-            absurd (false≢true (sym idle ∙ sym (ap (λ (t : Start). t.running) f)))
-        | inr other ↦ local_pending inv v s other (sym (nth_put_other starts u v (Some fresh) other) ∙ there) idle calm
+          | inl same ↦
+              let e : Some (Some fresh) ≡ Some (Some s) = sym (nth_put_same starts u o (Some fresh) at) ∙ (ap (nth starts') same ∙ there) in
+              let f : fresh ≡ s = same_Some fresh s (same_Some (Some fresh) (Some s) e) in
+              absurd (false≢true (sym idle ∙ sym (ap (λ (t : Start). t.running) f)))
+          | inr other ↦ local_pending inv v s other (sym (nth_put_other starts u v (Some fresh) other) ∙ there) idle calm
         ];
       }
 
@@ -207,6 +207,7 @@ local_plain builtins rows starts z v cells shows = go (marked_error (sheet_of bu
     by_failing : (f : Option CellError) → unmarked_value false f (Some (good builtins rows z starts v)) ≡ Some (from_option (good builtins rows z starts v) (λ (e : CellError). Fails e) f)
     by_failing None = refl
     by_failing (Some e) = refl
+
     go : (m : Option CellError) → marked_error (sheet_of builtins rows) v ≡ m → local_by builtins rows z (shown_in starts) v ≡ Some (outcome_by builtins rows z starts v)
     go (Some e) p =
         ap (λ (m : Option CellError). local_of builtins rows z starts v m) p
@@ -215,7 +216,7 @@ local_plain builtins rows starts z v cells shows = go (marked_error (sheet_of bu
         ap (λ (m : Option CellError). local_of builtins rows z starts v m) p
         ∙ ap (λ (b : Bool). unmarked_value b (failing builtins rows starts v) (evaluated_by builtins rows z starts v)) (any_false (λ u. not (is_some (shown_in starts u))) (direct (sheet_of builtins rows) v) (λ u h. ap not (shows p u h)))
         ∙ ap (unmarked_value false (failing builtins rows starts v))
-          (cell_outcome (body_of (sheet_of builtins rows) v) (values_given (sheet_of builtins rows) (shown_in starts) (inputs (sheet_of builtins rows) v)) (from_option [] (λ (s : Start). s.answers) (option_then z (λ s. s))) (from_option 0 (λ (s : Start). s.pulls) (option_then z (λ s. s))) cells)
+        (cell_outcome (body_of (sheet_of builtins rows) v) (values_given (sheet_of builtins rows) (shown_in starts) (inputs (sheet_of builtins rows) v)) (from_option [] (λ (s : Start). s.answers) (option_then z (λ s. s))) (from_option 0 (λ (s : Start). s.pulls) (option_then z (λ s. s))) cells)
         ∙ by_failing (failing builtins rows starts v)
         ∙ sym (ap (λ (m : Option CellError). Some (from_option (good builtins rows z starts v) (λ (e : CellError). Fails e) (or_else m (failing builtins rows starts v)))) p)
 
@@ -241,49 +242,47 @@ module _ (builtins : List (Field Value)) (rows : List VarRow) (starts : List (Op
   inputs_show : marked_error (sheet_of builtins rows) v ≡ None → (u : ℕ) → has (direct (sheet_of builtins rows) v) u ≡ true → is_some (shown_in starts u) ≡ true
   inputs_show unmarked u h =
       elim (or_cases (duplicate (sheet_of builtins rows) v || circular (sheet_of builtins rows) v) (list_all (λ u. is_some (shown_in starts u)) (direct (sheet_of builtins rows) v)) ready_v) [
-        inl m ↦ absurd (marked_not unmarked m)
-      | inr all ↦ all_true (λ u. is_some (shown_in starts u)) (direct (sheet_of builtins rows) v) u all h
+        | inl m ↦ absurd (marked_not unmarked m)
+        | inr all ↦ all_true (λ u. is_some (shown_in starts u)) (direct (sheet_of builtins rows) v) u all h
       ]
     where
       marked_not : marked_error (sheet_of builtins rows) v ≡ None → (duplicate (sheet_of builtins rows) v || circular (sheet_of builtins rows) v) ≡ true → ⊥
       marked_not k m = elim (or_cases (duplicate (sheet_of builtins rows) v) (circular (sheet_of builtins rows) v) m) [
-          inl d ↦ none-some (plain_error DefinedTwice (name_of (sheet_of builtins rows) v)) (sym k ∙ ap (λ (b : Bool). cond b (Some (plain_error DefinedTwice (name_of (sheet_of builtins rows) v))) (cond (circular (sheet_of builtins rows) v) (Some (plain_error Circular (name_of (sheet_of builtins rows) v))) None)) d)
+        | inl d ↦ none-some (plain_error DefinedTwice (name_of (sheet_of builtins rows) v)) (sym k ∙ ap (λ (b : Bool). cond b (Some (plain_error DefinedTwice (name_of (sheet_of builtins rows) v))) (cond (circular (sheet_of builtins rows) v) (Some (plain_error Circular (name_of (sheet_of builtins rows) v))) None)) d)
         | inr c ↦ false≢true (sym (not_circular (sheet_of builtins rows) v k) ∙ c)
-        ]
+      ]
 
   local_told : Local builtins rows showing' v
   local_told =
       let apart : marked_error (sheet_of builtins rows) v ≡ None → (u : ℕ) → has (direct (sheet_of builtins rows) v) u ≡ true → v ≢ u = λ unmarked u h e.
-        false≢true (sym (not_circular (sheet_of builtins rows) v unmarked) ∙ needs_direct (sheet_of builtins rows) v v (ap (has (direct (sheet_of builtins rows) v)) e ∙ h)) in
-      (
+      false≢true (sym (not_circular (sheet_of builtins rows) v unmarked) ∙ needs_direct (sheet_of builtins rows) v v (ap (has (direct (sheet_of builtins rows) v)) e ∙ h)) in (
         λ unmarked u h. ap (λ (o : Option Outcome). is_some o) (shown_others u (apart unmarked u h)) ∙ inputs_show unmarked u h,
         shown_now
-        ∙ sym (local_agree (at_rows builtins rows showing') (shown_in showing') (shown_in starts) v (λ unmarked u h. shown_others u (apart unmarked u h))
-          ∙ local_plain builtins rows starts (nth showing' v) v cells inputs_show
-          ∙ ap (λ (z : Option (Option Start)). Some (outcome_by builtins rows z starts v)) (nth_put_same starts v (Some s) (Some (showing_start told s)) at)
-          ∙ sym (ap (λ (z : Option (Option Start)). Some (outcome_by builtins rows z starts v)) at)),
+            ∙ sym (local_agree (at_rows builtins rows showing') (shown_in showing') (shown_in starts) v (λ unmarked u h. shown_others u (apart unmarked u h))
+            ∙ local_plain builtins rows starts (nth showing' v) v cells inputs_show
+            ∙ ap (λ (z : Option (Option Start)). Some (outcome_by builtins rows z starts v)) (nth_put_same starts v (Some s) (Some (showing_start told s)) at)
+            ∙ sym (ap (λ (z : Option (Option Start)). Some (outcome_by builtins rows z starts v)) at)),
       )
 
   pub local_shown : IsLocal builtins rows starts n → IsLocal builtins rows showing' (n + 1)
   local_shown inv =
       record {
         small = λ w t there. elim (cases_eq v w) [
-          inl same ↦
-            let e : Some (Some (showing_start told s)) ≡ Some (Some t) = sym (nth_put_same starts v (Some s) (Some (showing_start told s)) at) ∙ (ap (nth showing') same ∙ there) in
-            let f : showing_start told s ≡ t = same_Some (showing_start told s) t (same_Some (Some (showing_start told s)) (Some t) e) in
-            let p : (s.renewal ≤ n) × ((x : ℕ) → has s.kept.renewals x ≡ true → x ≤ n) = inv.small v s at in
-            subst (λ (t : Start). (t.renewal ≤ n + 1) × ((x : ℕ) → has t.kept.renewals x ≡ true → x ≤ n + 1)) f (omega (arith, p.0), λ x h. omega (arith, p.1 x h))
-        | inr other ↦
-          let p : (t.renewal ≤ n) × ((x : ℕ) → has t.kept.renewals x ≡ true → x ≤ n) = inv.small w t (sym (nth_put_other starts v w (Some (showing_start told s)) other) ∙ there) in
-          (omega (arith, p.0), λ x h. omega (arith, p.1 x h))
+          | inl same ↦
+              let e : Some (Some (showing_start told s)) ≡ Some (Some t) = sym (nth_put_same starts v (Some s) (Some (showing_start told s)) at) ∙ (ap (nth showing') same ∙ there) in
+              let f : showing_start told s ≡ t = same_Some (showing_start told s) t (same_Some (Some (showing_start told s)) (Some t) e) in
+              let p : (s.renewal ≤ n) × ((x : ℕ) → has s.kept.renewals x ≡ true → x ≤ n) = inv.small v s at in
+              subst (λ (t : Start). (t.renewal ≤ n + 1) × ((x : ℕ) → has t.kept.renewals x ≡ true → x ≤ n + 1)) f (omega (arith, p.0), λ x h. omega (arith, p.1 x h))
+          | inr other ↦
+              let p : (t.renewal ≤ n) × ((x : ℕ) → has t.kept.renewals x ≡ true → x ≤ n) = inv.small w t (sym (nth_put_other starts v w (Some (showing_start told s)) other) ∙ there) in
+              (omega (arith, p.0), λ x h. omega (arith, p.1 x h))
         ];
         shows = λ w t there idle still. elim (cases_eq v w) [
-          inl same ↦ subst (Local builtins rows showing') same local_told
-        | inr other ↦
-          let same : nth showing' w ≡ nth starts w = nth_put_other starts v w (Some (showing_start told s)) other in
-          let before : Local builtins rows starts w = inv.shows w t (sym same ∙ there) idle (calm w t (sym same ∙ there)) in
-          -- its inputs showed something, and v nothing
-          transfer builtins rows starts showing' w same (λ unmarked u h. shown_others u (λ e. false≢true (sym (ap (λ (o : Option Outcome). is_some o) shown_none) ∙ before.0 unmarked v (ap (has (direct (sheet_of builtins rows) w)) e ∙ h)))) before
+          | inl same ↦ subst (Local builtins rows showing') same local_told
+          | inr other ↦
+              let same : nth showing' w ≡ nth starts w = nth_put_other starts v w (Some (showing_start told s)) other in
+              let before : Local builtins rows starts w = inv.shows w t (sym same ∙ there) idle (calm w t (sym same ∙ there)) in
+              -- its inputs showed something, and v nothing
+              transfer builtins rows starts showing' w same (λ unmarked u h. shown_others u (λ e. false≢true (sym (ap (λ (o : Option Outcome). is_some o) shown_none) ∙ before.0 unmarked v (ap (has (direct (sheet_of builtins rows) w)) e ∙ h)))) before
         ];
       }
-

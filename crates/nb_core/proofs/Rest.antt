@@ -23,9 +23,9 @@ use Rattle.nb_core.proofs.Cells.{cell_is_some}
 any_not : (p : ℕ → Bool) (xs : List ℕ) → list_all p xs ≡ false → list_any (λ x. not (p x)) xs ≡ true
 any_not p [] h = absurd (false≢true (sym h))
 any_not p (x ∷ xs) h = elim (cases_Bool (p x)) [
-    inl y ↦ rw y (any_not p xs (rw y at h))
+  | inl y ↦ rw y (any_not p xs (rw y at h))
   | inr n ↦ rw n refl
-  ]
+]
 
 module _ (builtins : List (Field Value)) (rows : List VarRow) (starts : List (Option Start)) (log : List Entry) (state : IsState builtins rows starts log) (rests : Rests (of_log builtins rows starts log)) where
   abbrev r : Reading
@@ -38,13 +38,13 @@ module _ (builtins : List (Field Value)) (rows : List VarRow) (starts : List (Op
       let all = list_all (λ u. is_some (shown r u)) (direct sheet v) in
       let running : is_running r v ≡ true = ap (λ (z : Option (Option Start)). from_option false (λ (s : Start). s.running) (option_then z (λ s. s))) there ∙ runs in
       let not_ready : (duplicate sheet v || circular sheet v || all) ≡ false =
-        false_from_ne_true (duplicate sheet v || circular sheet v || all) (λ k. false≢true (sym (rests.1 v) ∙ and_from (is_running r v) (duplicate sheet v || circular sheet v || all) running k)) in
+      false_from_ne_true (duplicate sheet v || circular sheet v || all) (λ k. false≢true (sym (rests.1 v) ∙ and_from (is_running r v) (duplicate sheet v || circular sheet v || all) running k)) in
       let p : ((duplicate sheet v || circular sheet v) ≡ false) × (all ≡ false) = or_parts (duplicate sheet v || circular sheet v) all not_ready in
       let q : (duplicate sheet v ≡ false) × (circular sheet v ≡ false) = or_parts (duplicate sheet v) (circular sheet v) p.0 in
       let nothing : shown r v ≡ None = ap (λ (z : Option (Option Start)). option_then (option_then z (λ s. s)) (λ s. s.shown)) there ∙ (state.bare v s there).fresh runs in
       let marks : marked_error sheet v ≡ None =
-        ap (λ (b : Bool). cond b (Some (plain_error DefinedTwice (name_of sheet v))) (cond (circular sheet v) (Some (plain_error Circular (name_of sheet v))) None)) q.0
-        ∙ ap (λ (b : Bool). cond b (Some (plain_error Circular (name_of sheet v))) None) q.1 in
+      ap (λ (b : Bool). cond b (Some (plain_error DefinedTwice (name_of sheet v))) (cond (circular sheet v) (Some (plain_error Circular (name_of sheet v))) None)) q.0
+      ∙ ap (λ (b : Bool). cond b (Some (plain_error Circular (name_of sheet v))) None) q.1 in
       let waits_v : waits r (shown r) v ≡ true = any_not (λ u. is_some (shown r u)) (direct sheet v) p.1 in
       let u = λ (b : Bool). unmarked_value b (first_error (map (given sheet (shown r)) (inputs sheet v))) (evaluated_outcome r (shown r) v) in
       nothing ∙ sym (ap (λ (m : Option CellError). from_option (u (waits r (shown r) v)) (λ e. Some (Fails e)) m) marks ∙ ap u waits_v)
@@ -58,9 +58,9 @@ module _ (builtins : List (Field Value)) (rows : List VarRow) (starts : List (Op
       go None e calm = absurd (false≢true (sym (sym (ap (λ (z : Option (Option Start)). from_option true (λ (s : Start). not (same_footing (footing r v) s.kept)) (option_then z (λ s. s))) e) ∙ calm)))
       go (Some None) e calm = absurd (false≢true (sym (sym (ap (λ (z : Option (Option Start)). from_option true (λ (s : Start). not (same_footing (footing r v) s.kept)) (option_then z (λ s. s))) e) ∙ calm)))
       go (Some (Some s)) e calm = elim (cases_Bool s.running) [
-          inl runs ↦ waiting v s e runs
+        | inl runs ↦ waiting v s e runs
         | inr idle ↦ (state.local.shows v s e idle calm).1
-        ]
+      ]
 
   named_defined : NamedDefined (sheet_of builtins rows)
   named_defined v row at named = cell_is_some row.body (state.plain v row at).1

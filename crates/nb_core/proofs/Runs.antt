@@ -39,7 +39,7 @@ settling_goes_on old mid new v s closed first g =
       es = s.es ++ e ∷ g.es;
       longer = g.longer ∙ ap (λ (l : List Entry). l ++ e ∷ g.es) s.longer ∙ append_assoc old.log s.es (e ∷ g.es);
       serial = λ keys todo. serial_append keys (standing old) todo todo todo s.es (e ∷ g.es) (s.serial keys todo)
-        (subst (λ (q : Reading). SerialFrom keys q todo (e ∷ g.es) todo) here
+          (subst (λ (q : Reading). SerialFrom keys q todo (e ∷ g.es) todo) here
           (todo, ready_step keys (standing mid) todo v closed first, closes_serial keys (after (standing mid) e) todo g.es g.closes));
     }
 
@@ -82,16 +82,16 @@ run_goes_on builtins lines left editor event old mid new so_far g s closed =
     let e = admit (standing old) editor event in
     let here : standing old ≡ reading builtins old.log = ap (λ (b : List (Field Value)). reading b old.log) so_far.over in
     let gained : SerialFrom [] (reading builtins old.log) (todo_of ((editor, event) ∷ left)) (e ∷ g.es) (todo_of left) =
-      subst (λ (q : Reading). SerialFrom [] q (todo_of ((editor, event) ∷ left)) (e ∷ g.es) (todo_of left)) here
-      (todo_of left, line_first (standing old) (editor, event) left [] so_far.closed so_far.done, closes_serial [] (after (standing old) e) (todo_of left) g.es g.closes) in
+    subst (λ (q : Reading). SerialFrom [] q (todo_of ((editor, event) ∷ left)) (e ∷ g.es) (todo_of left)) here
+    (todo_of left, line_first (standing old) (editor, event) left [] so_far.closed so_far.done, closes_serial [] (after (standing old) e) (todo_of left) g.es g.closes) in
     let to_mid : SerialFrom [] (nothing_yet builtins) (todo_of lines) mid.log (todo_of left) =
-      subst (λ (l : List Entry). SerialFrom [] (nothing_yet builtins) (todo_of lines) l (todo_of left)) (sym g.longer)
-      (serial_on builtins (todo_of lines) (todo_of ((editor, event) ∷ left)) (todo_of left) old.log (e ∷ g.es) so_far.steps gained) in
+    subst (λ (l : List Entry). SerialFrom [] (nothing_yet builtins) (todo_of lines) l (todo_of left)) (sym g.longer)
+    (serial_on builtins (todo_of lines) (todo_of ((editor, event) ∷ left)) (todo_of left) old.log (e ∷ g.es) so_far.steps gained) in
     let there : standing mid ≡ reading builtins mid.log = ap (λ (b : List (Field Value)). reading b mid.log) (g.builtins ∙ so_far.over) in
     record {
       over = s.builtins ∙ g.builtins ∙ so_far.over;
       steps = subst (λ (l : List Entry). SerialFrom [] (nothing_yet builtins) (todo_of lines) l (todo_of left)) (sym s.longer)
-        (serial_on builtins (todo_of lines) (todo_of left) (todo_of left) mid.log s.es to_mid
+          (serial_on builtins (todo_of lines) (todo_of left) (todo_of left) mid.log s.es to_mid
           (subst (λ (q : Reading). SerialFrom [] q (todo_of left) s.es (todo_of left)) there (s.serial [] (todo_of left))));
       closed = closed;
       done = s.done;

@@ -10,6 +10,8 @@ mod names;
 mod placed;
 mod readiness;
 mod starts;
+#[cfg(test)]
+mod tests;
 mod ties;
 
 pub use machine::{Core, settle};

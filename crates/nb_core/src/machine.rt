@@ -8,10 +8,9 @@ ghost use Rattle.nb_core.specs.Core.{IsAddedCell, IsAdmitted, Gains, Places, IsL
 
 use crate::adding::{After, cell_of, edit_entry, grow};
 use crate::done::{copy_outcome, done_of, entry_of, outcome};
-use crate::inputs;
 use crate::placed::{Placed, Shown};
-use crate::readiness;
 use crate::starts::Started;
+use crate::{inputs, readiness};
 use nb_eval::{Work, WorkDone, is_work_of};
 use nb_log::{Entry, Event, Log, Refusal, VarRow};
 use nb_value::{Pairs, Value};

@@ -10,6 +10,7 @@ pub enum Placed {
 }
 
 /// What a variable shows.
+#[derive(Clone, Copy, Debug)]
 pub enum Shown<'a> {
     /// It has no start.
     Idle,
