@@ -1,6 +1,6 @@
 -- How the core keeps what stands: rows, starts, and what each variable's names tie it to.
-use Rattle.std.specs.Prelude.{ℕ, ◌+◌, ◌≡◌, ◌≤◌, ◌&&◌, ◌||◌, Bool, true, false, not, List, [], ◌∷◌, ◌++◌, map, length, Option, Some, None, is_some}
-use Rattle.std.specs.List.{list_any}
+use Rattle.std.specs.Prelude.{ℕ, ◌+◌, ◌-◌, ◌/◌, ◌%◌, ◌==◌, ◌≡◌, ◌≤◌, ◌&&◌, ◌||◌, Bool, true, false, not, nat_le, List, [], ◌∷◌, ◌++◌, map, length, Option, Some, None, is_some}
+use Rattle.std.specs.List.{list_any, list_all}
 use Rattle.nb_value.specs.declared.value.Value.{Value}
 use Rattle.nb_value.specs.declared.value.Value.TheVariants.{Null}
 use Rattle.nb_value.specs.declared.pairs.Field.{Field}
@@ -18,10 +18,10 @@ use Rattle.nb_log.specs.declared.entry.Entry.TheVariants.{Fulfilled, Rejected}
 use Rattle.nb_history.specs.Lists.{nth, put, has, from_option, numbers}
 use Rattle.nb_history.specs.Sheet.{Sheet}
 use Rattle.nb_history.specs.Names.{inputs, direct, duplicate, circular, needed}
-use Rattle.nb_history.specs.Reading.{Reading, Start, renewal, shown}
+use Rattle.nb_history.specs.Reading.{Reading, Start, start_of, is_idle, renewal, shown}
 use Rattle.nb_history.specs.Rules.{is_behind, footing, input_code, marked_error, local_value, evaluation, deciding_error}
 use Rattle.nb_history.specs.Log.{reading, IsLegal, IsQuiet, new_start}
-use Rattle.nb_history.specs.Serial.{closing}
+use Rattle.nb_history.specs.Serial.{closing, Closes}
 
 -- one module
 abbrev pub sheet_of : List (Field Value) → List VarRow → Sheet
@@ -98,6 +98,42 @@ shown_entry v (Fails e) = Rejected v e
 abbrev pub showing_start : Outcome → Start → Start
 showing_start x s = record s { shown = Some x; running = false }
 
+-- ---- what the core reads off its starts
+
+-- an input's number is that of a variable
+abbrev pub is_var_code : ℕ → Bool
+is_var_code c = nat_le 2 c && (c % 2 == 0)
+
+-- an input that is a variable shows something
+abbrev pub code_shows : (ℕ → Option Outcome) → ℕ → Bool
+code_shows shows c = not (is_var_code c) || is_some (shows ((c - 2) / 2))
+
+-- a start that runs, is marked or has inputs that show something
+abbrev pub ready_start : (ℕ → Option Outcome) → Start → Bool
+ready_start shows s = s.running && (s.kept.is_duplicate || s.kept.is_circular || list_all (code_shows shows) s.kept.inputs)
+
+abbrev pub ready_in : List (Option Start) → ℕ → Bool
+ready_in starts v = from_option false (ready_start (shown_in starts)) (start_of (at [] [] starts) v)
+
+abbrev pub started_in : List (Option Start) → ℕ → Bool
+started_in starts v = not (is_idle (start_of (at [] [] starts) v))
+
+-- the number of v's start, 0 for an idle v
+abbrev pub number_in : List (Option Start) → ℕ → ℕ
+number_in starts v = from_option 0 (λ (s : Start). s.number) (start_of (at [] [] starts) v)
+
+-- the marks of v's start
+abbrev pub marks_in : List (Option Start) → ℕ → Bool × Bool
+marks_in starts v = from_option (false, false) (λ (s : Start). (s.kept.is_duplicate, s.kept.is_circular)) (start_of (at [] [] starts) v)
+
+abbrev pub show_all : Outcome → Option Start → Option Start
+show_all x None = None
+show_all x (Some s) = Some (showing_start x s)
+
+-- v's start shows this outcome
+abbrev pub ShowsAt : List (Option Start) → ℕ → Outcome → List (Option Start) → Type 0
+ShowsAt starts v x now = (s : Start) → nth starts v ≡ Some (Some s) → now ≡ put starts v (Some (showing_start x s))
+
 -- ---- what the core keeps
 
 -- the row of an added observed cell of module 0, given at this place
@@ -151,3 +187,9 @@ pub record IsCore (builtins : List (Field Value)) (rows : List VarRow) (starts :
   pub state : IsState builtins rows starts log
   pub quiet : IsQuietLog builtins log
   pub few : length rows ≤ 1024
+
+-- what its calls keep of a log that closes by these entries
+pub record IsClosed (builtins : List (Field Value)) (rows : List VarRow) (starts : List (Option Start)) (log es : List Entry) : Type 0 where
+  pub state : IsState builtins rows starts (log ++ es)
+  pub quiet : IsQuietLog builtins (log ++ es)
+  pub closes : Closes (reading builtins log) es
