@@ -24,9 +24,10 @@ use Rattle.nb_history.specs.Lists.{Name, from_option, numbers}
 use Rattle.nb_history.specs.Names.{inputs}
 use Rattle.nb_history.specs.Reading.{Reading, Start, start_of, is_idle, shown}
 use Rattle.nb_history.specs.Rules.{deciding_error, body_of, values_given, first_value, answers_of, pulls_of, ready, is_running, next}
-use Rattle.nb_history.specs.Log.{after, admit}
+use Rattle.nb_history.specs.Log.{after, admit, Rests}
 use Rattle.nb_history.specs.Serial.{Closes, Todo, SerialFrom, closing, least_var}
 use Rattle.nb_history.specs.History.{History, standing}
+use Rattle.nb_history.specs.Headline.{ShowsScratch}
 use Rattle.nb_core.specs.declared.placed.Placed.{Placed}
 use Rattle.nb_core.specs.declared.placed.Placed.TheVariants.{Shown, Stale}
 use Rattle.nb_core.specs.declared.placed.Shown.{Shown as ShownNow}
@@ -122,3 +123,7 @@ pub record IsLonger (old new : History) : Type 0 where
   pub builtins : new.builtins ≡ old.builtins
   pub es : List Entry
   pub longer : new.log ≡ old.log ++ es
+
+-- where the log rests, every wanted variable shows what evaluating from scratch gives
+abbrev pub RestsOnScratch : History → Type 0
+RestsOnScratch h = Rests (standing h) → ShowsScratch h.builtins h.log

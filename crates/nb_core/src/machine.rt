@@ -1,10 +1,12 @@
 ghost use Rattle.std.specs.Prelude.{◌≡◌, ◌≤◌, ◌<◌, ◌+◌, [], true, length, IfOk, IfErr, OnOk, OnErr, IsTrue, ◌↔◌};
+ghost use Rattle.std.specs.Option.{option_copied};
 ghost use Rattle.nb_eval.specs.Work.{IsOf};
+ghost use Rattle.nb_history.specs.Reading.{shown as shown_in_log};
 ghost use Rattle.nb_history.specs.History.{standing, IsClosedHistory};
 ghost use Rattle.nb_history.specs.Log.{admit, Rests};
 ghost use Rattle.nb_history.specs.Rules.{ready as ready_of, next, wanted as wanted_of, scratch};
 ghost use Rattle.nb_history.specs.Serial.{least_var};
-ghost use Rattle.nb_core.specs.Core.{IsAddedCell, IsAdmitted, Gains, Places, IsLonger, Settles, ShownIs, work_of, start_number, shown_outcome, running};
+ghost use Rattle.nb_core.specs.Core.{IsAddedCell, IsAdmitted, Gains, Places, IsLonger, Settles, ShownIs, work_of, start_number, shown_outcome, running, RestsOnScratch};
 
 use crate::adding::{After, cell_of, edit_entry, grow};
 use crate::done::{copy_outcome, done_of, entry_of, outcome};
@@ -13,7 +15,7 @@ use crate::starts::Started;
 use crate::{inputs, readiness};
 use nb_eval::{Work, WorkDone, is_work_of};
 use nb_log::{Entry, Event, Log, Refusal, VarRow};
-use nb_value::{Pairs, Value};
+use nb_value::{Outcome, Pairs, Value};
 use std::alloc::{AllocError, Global};
 use std::marker::Model;
 
@@ -152,6 +154,7 @@ impl Core {
     pub fn next_ready(&self) -> Option<u32>
         ensures found { result ≡ least_var (standing self.now) (ready_of (standing self.now)) }
         ensures closed { IsClosedHistory self.now }
+        ensures rest { RestsOnScratch self.now }
     {
         readiness::next_ready(&self.starts)
     }
@@ -251,6 +254,13 @@ impl Core {
         readiness::shown_at(&self.starts, var)
     }
 
+    /// The outcome that a variable shows, if it shows one. It takes no memory.
+    pub fn outcome(&self, var: u32) -> Option<&Outcome>
+        ensures { option_copied result ≡ shown_in_log (standing self.now) var }
+    {
+        inputs::shown_of(&self.starts, var)
+    }
+
     /// Whether a variable is wanted. It takes no memory.
     pub fn wanted(&self, var: u32) -> bool
         ensures { result ≡ wanted_of (standing self.now) var }
@@ -262,13 +272,15 @@ impl Core {
     pub fn log(&self) -> &Log
         ensures value { result.now.entries ≡ self.now.log }
         ensures closed { IsClosedHistory self.now }
+        ensures rest { RestsOnScratch self.now }
     {
         &self.log
     }
 
     /// The rows of the variables, by number.
     pub fn rows(&self) -> &[VarRow]
-        ensures { result.now ≡ (standing self.now).sheet.rows }
+        ensures value { result.now ≡ (standing self.now).sheet.rows }
+        ensures few { length result.now ≤ 1024 }
     {
         &self.rows
     }
@@ -305,6 +317,8 @@ fn step(core: &mut Core, var: u32) -> Result<(), AllocError>
 /// the log keeps what was shown before.
 pub fn settle(core: &mut Core) -> Result<(), AllocError>
     ensures ok { OnOk result (Settles core.old core.new) }
+    ensures closed { OnOk result (IsClosedHistory core.new) }
+    ensures rest { OnOk result (RestsOnScratch core.new) }
     ensures err { OnErr result (IsLonger core.old core.new) }
 {
     loop {

@@ -2,8 +2,8 @@
 use Rattle.std.proofs.Common.{◌≡◌, ℕ, ◌<◌, ◌≤◌, List, length, None, Some, arith}
 use Rattle.std.proofs.lemmas.Bool.Decides.{nat_tests}
 use Rattle.nb_lines.specs.Lines.{first_fault}
-use Rattle.nb_lines.specs.declared.lines.BadReason.{BadReason}
-use Rattle.nb_lines.specs.declared.lines.LineFail.TheVariants as fail
+use Rattle.nb_lines.specs.declared.script.BadReason.{BadReason}
+use Rattle.nb_lines.specs.declared.script.LineFail.TheVariants as fail
 use Rattle.nb_main.specs.declared.status.Status.TheVariants.{BadInput, NotBuilt, TooLong}
 use Rattle.nb_main.specs.Outcome.{limit, refusal}
 

@@ -4,7 +4,7 @@ use Rattle.nb_io.specs.Causes.{Rose}
 use Rattle.nb_io.specs.Streams.{Tells}
 use Rattle.nb_main.specs.declared.status.Status.{Status}
 use Rattle.nb_main.specs.declared.status.Status.TheVariants.{Ok, Memory, Usage, BadInput, NotBuilt, ReadFault, WriteFault, TooLong}
-use Rattle.nb_lines.specs.declared.lines.BadReason.{BadReason}
+use Rattle.nb_lines.specs.declared.script.BadReason.{BadReason}
 use Rattle.nb_main.specs.Command.{command}
 use Rattle.nb_main.specs.Outcome.{refusal}
 use Rattle.nb_main.specs.Answers.{Call}

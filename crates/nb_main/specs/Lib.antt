@@ -3,3 +3,4 @@ pub mod Outcome
 pub mod Answers
 pub mod Causes
 pub mod Notes
+pub mod Run

@@ -3,8 +3,8 @@ use Rattle.std.specs.Prelude.{ℕ, List, [], ◌++◌, codes, decimal, Option, �
 use Rattle.std.specs.Io.KnownBytes.{Appends}
 use Rattle.nb_io.specs.Causes.{Rose}
 use Rattle.nb_io.specs.Streams.{AppendsFront}
-use Rattle.nb_lines.specs.declared.lines.BadReason.{BadReason}
-use Rattle.nb_lines.specs.declared.lines.BadReason.TheVariants.{LineTooLong, TooManyLines}
+use Rattle.nb_lines.specs.declared.script.BadReason.{BadReason}
+use Rattle.nb_lines.specs.declared.script.BadReason.TheVariants.{LineTooLong, TooManyLines}
 use Rattle.nb_main.specs.declared.status.Status.{Status}
 use Rattle.nb_main.specs.declared.status.Status.TheVariants.{Ok, Memory, Usage, BadInput, NotBuilt, ReadFault, WriteFault, TooLong}
 

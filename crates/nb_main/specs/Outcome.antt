@@ -2,8 +2,8 @@
 use Rattle.std.specs.Prelude.{◌≡◌, ℕ, List, [], length, Option, None, Some, Result, nat_lt, if◌then◌else◌, option_map}
 use Rattle.std.specs.declared.result.Result.TheVariants.{Ok, Err}
 use Rattle.nb_lines.specs.Lines.{first_fault, scripts, script_lines}
-use Rattle.nb_lines.specs.declared.lines.LineFail.{LineFail}
-use Rattle.nb_lines.specs.declared.lines.LineFail.TheVariants as fail
+use Rattle.nb_lines.specs.declared.script.LineFail.{LineFail}
+use Rattle.nb_lines.specs.declared.script.LineFail.TheVariants as fail
 use Rattle.nb_log.specs.declared.entry.Entry.{Entry}
 use Rattle.nb_history.specs.Headline.{IsHistoryOf}
 use Rattle.nb_history.specs.Print.{printing}

@@ -16,7 +16,7 @@ pub fn answer(alloc: Global, bytes: &[u8]) -> Result<Bytes, LineFail>
     ensures { IsAnswer bytes.now result }
 {
     let lines = read_lines(alloc, bytes)?;
-    let core = history(alloc, lines)?;
+    let core = history(alloc, &lines)?;
     let text = print(alloc, &core)?;
     Ok(text)
 }
