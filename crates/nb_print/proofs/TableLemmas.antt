@@ -10,9 +10,9 @@ use Rattle.nb_print.specs.Table.{var_text, lines_from}
 
 first_line : (r : Reading) (v n : ℕ) → lines_from r v (suc n) ≡ var_text r v ++ lines_from r (v + 1) n
 first_line r v n = elim (cases_Bool (wanted r v)) [
-    inl yes_wanted ↦ rw yes_wanted refl
+  | inl yes_wanted ↦ rw yes_wanted refl
   | inr not_wanted ↦ rw not_wanted refl
-  ]
+]
 
 -- one more variable
 pub one_more : (r : Reading) (i n : ℕ) (done text out : List ℕ) → i < n → done ++ lines_from r (i + 1) (n - i) ≡ text → out ≡ done ++ var_text r (i + 1) → out ++ lines_from r (i + 1 + 1) (n - (i + 1)) ≡ text

@@ -35,6 +35,7 @@ pub fn print_table(alloc: Global, core: &Core) -> Result<Bytes, AllocError>
 
 /// All that is written of a core: the lines of its log, and its table.
 pub fn print(alloc: Global, core: &Core) -> Result<Bytes, AllocError>
+    requires { All HasSmallTickets core.now.log }
     ensures { IfOk result (λ text. text ≡ printing core.now.builtins core.now.log) }
 {
     let mut text = print_log(alloc, core.log())?;
