@@ -42,7 +42,7 @@ nothing_first : (r : Reading) → Rests r → first_step [] r nothing ≡ None
 nothing_first r rests = no_step r [] (nothing_closes r rests.0) (none_where (ready r) (numbers r.sheet.rows) rests.1)
 
 -- a step that takes no line leaves nothing to come
-same_todo : (r : Reading) (e : Entry) (mid : Todo) → first_step [] r nothing ≡ Some (e, mid) → mid ≡ nothing
+pub same_todo : (r : Reading) (e : Entry) (mid : Todo) → first_step [] r nothing ≡ Some (e, mid) → mid ≡ nothing
 same_todo r e mid h = go (closing r) refl (next_of_ready r) refl
   where
     from_entry : (x : Entry) → or_else (closing r) (next_of_ready r) ≡ Some x → mid ≡ nothing

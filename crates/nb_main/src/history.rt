@@ -1,5 +1,8 @@
-ghost use Rattle.std.specs.Prelude.{◌≡◌, ◌<◌, [], IfOk, OnOk};
+ghost use Rattle.std.specs.Prelude.{◌≡◌, [], All, IfOk, OnOk};
+ghost use Rattle.nb_log.specs.Tickets.{HasSmallTickets};
 ghost use Rattle.nb_history.specs.Headline.{IsHistoryOf};
+ghost use Rattle.nb_history.specs.History.{IsClosedHistory};
+ghost use Rattle.nb_core.specs.Core.{RestsOnScratch};
 ghost use Rattle.nb_lines.specs.Lines.{script_lines, AddsCell, AllAddCells};
 ghost use Rattle.nb_main.specs.Run.{TakesLine};
 
@@ -13,6 +16,7 @@ pub fn history(alloc: Global, lines: &Scripts) -> Result<Core, AllocError>
     requires { AllAddCells lines.now }
     ensures builtins { IfOk result (λ core. core.builtins ≡ []) }
     ensures history { IfOk result (λ core. IsHistoryOf [] (script_lines lines.now) core.log) }
+    ensures tickets { IfOk result (λ core. All HasSmallTickets core.log) }
 {
     let mut core = Core::new(alloc, Pairs::new(alloc))?;
     for line in lines.as_slice() {
@@ -24,12 +28,16 @@ pub fn history(alloc: Global, lines: &Scripts) -> Result<Core, AllocError>
 /// Takes a line, and then does all work that is ready.
 fn take_line(alloc: Global, core: &mut Core, line: &ScriptLine) -> Result<(), AllocError>
     requires { AddsCell line.now }
-    ensures { OnOk result (TakesLine core.old line.now core.new) }
+    ensures takes { OnOk result (TakesLine core.old line.now core.new) }
+    ensures closed { OnOk result (IsClosedHistory core.new) }
+    ensures rest { OnOk result (RestsOnScratch core.new) }
 {
     let event = line.event.copy(alloc)?;
     match core.event(line.editor, event) {
-        Ok(_) => {}
-        Err((_, refused)) => return Err(refused),
+        Ok(_) => {
+            settle(core)?;
+            Ok(())
+        }
+        Err((_, refused)) => Err(refused),
     }
-    settle(core)
 }

@@ -1,0 +1,122 @@
+-- A run of lines keeps their history, and what is promised of it.
+use Rattle.std.proofs.Common.{ℕ, zero, suc, ◌≡◌, ◌<◌, ◌≤◌, ◌+◌, refl, sym, ◌∙◌, ap, subst, Bool, true, false, List, [], ◌∷◌, ◌++◌, append_assoc, length, drop, get_or, drop-cons, add-one, map, arith, Option, Some, None}
+use Rattle.std.proofs.lemmas.Bool.{false≢true}
+use Rattle.nb_value.specs.declared.value.Value.{Value}
+use Rattle.nb_value.specs.declared.pairs.Field.{Field}
+use Rattle.nb_log.specs.declared.event.Event.{Event}
+use Rattle.nb_log.specs.declared.entry.Entry.{Entry}
+use Rattle.nb_history.specs.Reading.{Reading}
+use Rattle.nb_history.specs.Rules.{wanted}
+use Rattle.nb_history.specs.Log.{nothing_yet, after, reading, read_from, admit, IsLegal, RestsAfter}
+use Rattle.nb_history.specs.Serial.{SerialFrom}
+use Rattle.nb_history.specs.History.{History, standing, IsClosedHistory}
+use Rattle.nb_history.specs.Headline.{ShowsScratch, HoldsAtRests, IsHistoryOf}
+use Rattle.nb_history.proofs.Histories.{read_append, serial_append, closes_serial}
+use Rattle.nb_history.proofs.AtRests.{nothing, holds_on, holds_at_first}
+use Rattle.nb_core.specs.Core.{Gains, Settles, RestsOnScratch}
+use Rattle.nb_core.proofs.Runs.{IsRun, run_goes_on, run_ends}
+use Rattle.nb_lines.specs.declared.script.ScriptLine.{ScriptLine}
+use Rattle.nb_lines.specs.Lines.{script_lines, AddsCell, AllAddCells}
+use Rattle.nb_main.specs.Run.{TakesLine}
+use Rattle.nb_main.proofs.TicketLemmas.{AllSmall, small_append, small_admit, small_serial}
+
+-- of the lines, those that are left are still to come, and all that is promised holds so far
+pub record IsRunning (lines left : List ScriptLine) (h : History) : Type 0 where
+  pub run : IsRun [] (script_lines lines) (script_lines left) h
+  pub rests : HoldsAtRests h.builtins h.log
+  pub legal : IsLegal h.builtins h.log
+  pub small : AllSmall h.log
+
+-- before any entry no variable is wanted
+shows_nothing : ShowsScratch [] []
+shows_nothing zero w = absurd (false≢true w)
+shows_nothing (suc v) w = absurd (false≢true w)
+
+abbrev pub empty : History
+empty = record { builtins = []; log = [] }
+
+pub running_begins : (lines : List ScriptLine) → IsRunning lines lines empty
+running_begins lines =
+    record {
+      run = record { over = refl; steps = refl; closed = refl; done = refl };
+      rests = holds_at_first [] shows_nothing;
+      legal = tt;
+      small = tt;
+    }
+
+history_eq : (a b : History) → a.builtins ≡ b.builtins → a.log ≡ b.log → a ≡ b
+history_eq a b p q =
+    ap (λ (x : List (Field Value)). let h : History = record { builtins = x; log = a.log } in h) p
+    ∙ ap (λ (l : List Entry). let h : History = record { builtins = b.builtins; log = l } in h) q
+
+module _ (lines left : List ScriptLine) (line : ScriptLine) (old new : History) (so_far : IsRunning lines (line ∷ left) old) (adds : AddsCell line)
+    (takes : TakesLine old line new) (closed : IsClosedHistory new) (rest : RestsOnScratch new) where
+  abbrev e : Entry
+  e = admit (standing old) line.editor line.event
+
+  abbrev es : List Entry
+  es = takes.gains.es ++ takes.settles.es
+
+  abbrev longer : History
+  longer = record { builtins = old.builtins; log = old.log ++ admit (standing old) line.editor line.event ∷ (takes.gains.es ++ takes.settles.es) }
+
+  same : new ≡ longer
+  same =
+      history_eq new longer (takes.settles.builtins ∙ takes.gains.builtins)
+      (takes.settles.longer ∙ ap (λ (l : List Entry). l ++ takes.settles.es) takes.gains.longer
+        ∙ append_assoc old.log (e ∷ takes.gains.es) takes.settles.es)
+
+  mid_stands : standing takes.mid ≡ read_from (after (standing old) e) takes.gains.es
+  mid_stands =
+      ap (λ (b : List (Field Value)). reading b takes.mid.log) takes.gains.builtins
+      ∙ ap (reading old.builtins) takes.gains.longer
+      ∙ read_append (nothing_yet old.builtins) old.log (e ∷ takes.gains.es)
+
+  serial : SerialFrom [] (after (standing old) e) nothing (takes.gains.es ++ takes.settles.es) nothing
+  serial =
+      serial_append [] (after (standing old) e) nothing nothing nothing takes.gains.es takes.settles.es
+      (closes_serial [] (after (standing old) e) nothing takes.gains.es takes.gains.closes)
+      (subst (λ (r : Reading). SerialFrom [] r nothing takes.settles.es nothing) mid_stands (takes.settles.serial [] nothing))
+
+  serial_here : SerialFrom [] (reading old.builtins (old.log ++ e ∷ [])) nothing (takes.gains.es ++ takes.settles.es) nothing
+  serial_here =
+      subst (λ (r : Reading). SerialFrom [] r nothing (takes.gains.es ++ takes.settles.es) nothing) (sym (read_append (nothing_yet old.builtins) old.log (e ∷ []))) serial
+
+  pub running_goes_on : IsRunning lines left new
+  running_goes_on =
+      record {
+        run = run_goes_on [] (script_lines lines) (script_lines left) line.editor line.event old takes.mid new so_far.run takes.gains takes.settles closed.closed;
+        rests = subst (λ (h : History). HoldsAtRests h.builtins h.log) (sym same)
+          (holds_on old.builtins old.log e (takes.gains.es ++ takes.settles.es) so_far.rests serial_here (subst RestsOnScratch same rest));
+        legal = closed.legal;
+        small = subst (λ (h : History). AllSmall h.log) (sym same)
+          (small_append old.log (e ∷ (takes.gains.es ++ takes.settles.es)) so_far.small
+            (small_admit (standing old) line.editor line.event adds.1, small_serial (after (standing old) e) (takes.gains.es ++ takes.settles.es) serial));
+      }
+
+-- the next of the lines that are left
+pub next_line : (lines all : List ScriptLine) (i : ℕ) (d : ScriptLine) (h : History) → i < length all → IsRunning lines (drop i all) h → IsRunning lines (get_or all i d ∷ drop (i + 1) all) h
+next_line lines all i d h below so_far =
+    subst (λ (left : List ScriptLine). IsRunning lines left h) (drop-cons all i d below ∙ ap (λ (j : ℕ). get_or all i d ∷ drop j all) (sym (add-one i))) so_far
+
+pub adds_at : (all : List ScriptLine) (i : ℕ) (d : ScriptLine) → AllAddCells all → i < length all → AddsCell (get_or all i d)
+adds_at [] i d h below = absurd (omega (arith, below))
+adds_at (x ∷ xs) zero d h below = h.0
+adds_at (x ∷ xs) (suc i) d h below = adds_at xs i d h.1 (omega (arith, below))
+
+none_left : (all : List ScriptLine) (i : ℕ) → length all ≤ i → drop i all ≡ []
+none_left [] zero h = refl
+none_left [] (suc i) h = refl
+none_left (x ∷ xs) zero h = absurd (omega (arith, h))
+none_left (x ∷ xs) (suc i) h = none_left xs i (omega (arith, h))
+
+pub running_ends : (lines all : List ScriptLine) (i : ℕ) (h : History) → length all ≤ i → IsRunning lines (drop i all) h → (h.builtins ≡ []) × IsHistoryOf [] (script_lines lines) h.log
+running_ends lines all i h over so_far =
+    let whole : IsRunning lines [] h = subst (λ (left : List ScriptLine). IsRunning lines left h) (none_left all i over) so_far in (
+      whole.run.over,
+      record {
+        serial = run_ends [] (script_lines lines) h whole.run;
+        legal = subst (λ (b : List (Field Value)). IsLegal b h.log) whole.run.over whole.legal;
+        rests = subst (λ (b : List (Field Value)). HoldsAtRests b h.log) whole.run.over whole.rests;
+      },
+    )
