@@ -166,7 +166,7 @@ impl Core {
         readiness::is_ready(&self.starts, var)
     }
 
-    /// The number of a variable's present start, 0 for an idle one. It takes no memory.
+    /// The number of a variable's present start, 0 for an idle one or no variable. It takes no memory.
     pub fn start(&self, var: u32) -> u64
         ensures { result ≡ start_number (standing self.now) var }
     {
@@ -193,6 +193,7 @@ impl Core {
 
     /// Takes what was done at a start of a variable. It is shown where it is what is to be done now.
     /// All memory is taken first: where it runs out, nothing has changed and the work comes back.
+    /// It evaluates nothing, and costs what `segment` does and a copy of the outcome.
     pub fn complete(
         &mut self,
         var: u32,
@@ -247,6 +248,7 @@ impl Core {
     }
 
     /// What a variable shows. Where the log rests, a wanted variable shows what evaluating from scratch gives.
+    /// It takes no memory.
     pub fn shown(&self, var: u32) -> Shown<'_>
         ensures value { ShownIs (standing self.now) var result }
         ensures rest { Rests (standing self.now) → wanted_of (standing self.now) var ≡ true → shown_outcome result ≡ scratch (standing self.now) var }
@@ -314,7 +316,7 @@ fn step(core: &mut Core, var: u32) -> Result<(), AllocError>
 }
 
 /// Shows the outcomes of what is ready, the least variable first, until nothing is. Where memory runs out,
-/// the log keeps what was shown before.
+/// the log keeps what was shown before. It costs one evaluation for each variable that runs.
 pub fn settle(core: &mut Core) -> Result<(), AllocError>
     ensures ok { OnOk result (Settles core.old core.new) }
     ensures closed { OnOk result (IsClosedHistory core.new) }
