@@ -64,7 +64,7 @@ module _ (lines left : List ScriptLine) (line : ScriptLine) (old new : History) 
   same =
       history_eq new longer (takes.settles.builtins ∙ takes.gains.builtins)
       (takes.settles.longer ∙ ap (λ (l : List Entry). l ++ takes.settles.es) takes.gains.longer
-        ∙ append_assoc old.log (e ∷ takes.gains.es) takes.settles.es)
+      ∙ append_assoc old.log (e ∷ takes.gains.es) takes.settles.es)
 
   mid_stands : standing takes.mid ≡ read_from (after (standing old) e) takes.gains.es
   mid_stands =
@@ -87,10 +87,10 @@ module _ (lines left : List ScriptLine) (line : ScriptLine) (old new : History) 
       record {
         run = run_goes_on [] (script_lines lines) (script_lines left) line.editor line.event old takes.mid new so_far.run takes.gains takes.settles closed.closed;
         rests = subst (λ (h : History). HoldsAtRests h.builtins h.log) (sym same)
-          (holds_on old.builtins old.log e (takes.gains.es ++ takes.settles.es) so_far.rests serial_here (subst RestsOnScratch same rest));
+            (holds_on old.builtins old.log e (takes.gains.es ++ takes.settles.es) so_far.rests serial_here (subst RestsOnScratch same rest));
         legal = closed.legal;
         small = subst (λ (h : History). AllSmall h.log) (sym same)
-          (small_append old.log (e ∷ (takes.gains.es ++ takes.settles.es)) so_far.small
+            (small_append old.log (e ∷ (takes.gains.es ++ takes.settles.es)) so_far.small
             (small_admit (standing old) line.editor line.event adds.1, small_serial (after (standing old) e) (takes.gains.es ++ takes.settles.es) serial));
       }
 
@@ -120,3 +120,16 @@ running_ends lines all i h over so_far =
         rests = subst (λ (b : List (Field Value)). HoldsAtRests b h.log) whole.run.over whole.rests;
       },
     )
+
+-- ---- as the loop has it
+
+pub begins_here : (lines : List ScriptLine) (h : History) (b : List (Field Value)) → b ≡ [] → h ≡ (let e : History = record { builtins = b; log = [] } in e) → IsRunning lines lines h
+begins_here lines h b none is =
+    subst (IsRunning lines lines) (sym (is ∙ ap (λ (x : List (Field Value)). let e : History = record { builtins = x; log = [] } in e) none)) (running_begins lines)
+
+pub turn : (all : List ScriptLine) (i : ℕ) (line : ScriptLine) (old new : History) → i < length all → line ≡ get_or all i line → AllAddCells all → IsRunning all (drop i all) old
+    → TakesLine old line new → IsClosedHistory new → RestsOnScratch new → IsRunning all (drop (i + 1) all) new
+turn all i line old new inside is adds so_far takes closed rest =
+    running_goes_on all (drop (i + 1) all) line old new
+    (subst (λ (x : ScriptLine). IsRunning all (x ∷ drop (i + 1) all) old) (sym is) (next_line all all i line old inside so_far))
+    (subst AddsCell (sym is) (adds_at all i line adds inside)) takes closed rest

@@ -86,7 +86,7 @@ small_next r v = go (deciding_error r (shown r) v)
         let end : Evaluated = evaluation r (shown r) v in
         no_ticket (evaluated r v)
         (small_ending (length r.tickets + 1) v (generates (body_of r.sheet v)) (pulls_of r v == 1) end end.ending
-          (body_ends (body_of r.sheet v) (values_given r.sheet (shown r) (inputs r.sheet v)) (answers_of r v) (pulls_of r v)))
+        (body_ends (body_of r.sheet v) (values_given r.sheet (shown r) (inputs r.sheet v)) (answers_of r v) (pulls_of r v)))
 
 small_step : (r : Reading) (e : Entry) (mid : Todo) → first_step [] r nothing ≡ Some (e, mid) → HasSmallTickets e
 small_step r e mid h = go (closing r) refl (least_var r (ready r)) refl

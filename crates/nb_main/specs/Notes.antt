@@ -16,7 +16,7 @@ abbrev pub note : Status → List ℕ
 note Ok = []
 note Memory = codes "notebook: out of memory\n"
 note Usage = codes "notebook: usage: notebook run [FILE] | workers N [FILE] | make N SEED\n"
-note (BadInput line reason) = codes "notebook: line " ++ decimal line ++ codes ": " ++ reason_text reason ++ codes "\n"
+note (BadInput line reason) = codes "notebook: line " ++ (decimal line ++ (codes ": " ++ (reason_text reason ++ codes "\n")))
 note (NotBuilt line) = codes "notebook: line " ++ decimal line ++ codes ": NotBuilt\n"
 note ReadFault = codes "notebook: read fault\n"
 note WriteFault = codes "notebook: write fault\n"

@@ -1,8 +1,9 @@
+ghost use Rattle.std.specs.Prelude.{◌≡◌};
 ghost use Rattle.nb_io.specs.Causes.{HasCause};
 ghost use Rattle.nb_io.specs.Streams.{WritesAll};
 ghost use Rattle.nb_main.specs.Answers.{Answers, seen};
 ghost use Rattle.nb_main.specs.Causes.{Causes};
-ghost use Rattle.nb_main.specs.Notes.{note, Notes};
+ghost use Rattle.nb_main.specs.Notes.{note, Notes, reason_text as reason_word};
 
 use crate::answer::{LIMIT, answer};
 use crate::status::Status;
@@ -89,13 +90,10 @@ fn tell<E: Sink>(notes: &mut E, status: Status) -> Result<(), Failed>
             notes,
             b"notebook: usage: notebook run [FILE] | workers N [FILE] | make N SEED\n",
         ),
-        Status::BadInput(line, BadReason::LineTooLong) => {
+        Status::BadInput(line, reason) => {
             let line = digits.format(line).as_bytes();
-            write_pieces(notes, &[b"notebook: line ", line, b": LineTooLong\n"])
-        }
-        Status::BadInput(line, BadReason::TooManyLines) => {
-            let line = digits.format(line).as_bytes();
-            write_pieces(notes, &[b"notebook: line ", line, b": TooManyLines\n"])
+            let reason = reason_text(reason);
+            write_pieces(notes, &[b"notebook: line ", line, b": ", reason, b"\n"])
         }
         Status::NotBuilt(line) => {
             let line = digits.format(line).as_bytes();
@@ -107,5 +105,15 @@ fn tell<E: Sink>(notes: &mut E, status: Status) -> Result<(), Failed>
             let most = digits.format(most).as_bytes();
             write_pieces(notes, &[b"notebook: more than ", most, b" bytes\n"])
         }
+    }
+}
+
+/// The word of a reason.
+fn reason_text(reason: BadReason) -> &'static [u8]
+    ensures { result.now ≡ reason_word reason }
+{
+    match reason {
+        BadReason::LineTooLong => b"LineTooLong",
+        BadReason::TooManyLines => b"TooManyLines",
     }
 }

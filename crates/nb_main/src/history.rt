@@ -1,8 +1,9 @@
 ghost use Rattle.std.specs.Prelude.{◌≡◌, [], All, IfOk, OnOk};
 ghost use Rattle.nb_log.specs.Tickets.{HasSmallTickets};
 ghost use Rattle.nb_history.specs.Headline.{IsHistoryOf};
-ghost use Rattle.nb_history.specs.History.{IsClosedHistory};
-ghost use Rattle.nb_core.specs.Core.{RestsOnScratch};
+ghost use Rattle.nb_history.specs.History.{IsClosedHistory, standing};
+ghost use Rattle.nb_history.specs.Log.{admit};
+ghost use Rattle.nb_core.specs.Core.{RestsOnScratch, Gains};
 ghost use Rattle.nb_lines.specs.Lines.{script_lines, AddsCell, AllAddCells};
 ghost use Rattle.nb_main.specs.Run.{TakesLine};
 
@@ -32,12 +33,19 @@ fn take_line(alloc: Global, core: &mut Core, line: &ScriptLine) -> Result<(), Al
     ensures closed { OnOk result (IsClosedHistory core.new) }
     ensures rest { OnOk result (RestsOnScratch core.new) }
 {
+    add_line(alloc, core, line)?;
+    settle(core)?;
+    Ok(())
+}
+
+/// Takes a line's event.
+fn add_line(alloc: Global, core: &mut Core, line: &ScriptLine) -> Result<(), AllocError>
+    requires { AddsCell line.now }
+    ensures { OnOk result (Gains core.old (admit (standing core.old) line.now.editor line.now.event) core.new) }
+{
     let event = line.event.copy(alloc)?;
     match core.event(line.editor, event) {
-        Ok(_) => {
-            settle(core)?;
-            Ok(())
-        }
+        Ok(_) => Ok(()),
         Err((_, refused)) => Err(refused),
     }
 }
