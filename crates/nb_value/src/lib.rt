@@ -4,6 +4,7 @@
 mod argv;
 mod boxed;
 mod bytes;
+mod function;
 mod items;
 mod numbers;
 mod order;
@@ -21,6 +22,7 @@ mod words;
 pub use argv::Argv;
 pub use boxed::Boxed;
 pub use bytes::Bytes;
+pub use function::Function;
 pub use items::Items;
 pub use numbers::Numbers;
 pub use outcome::{Answer, CellError, ErrorKind, Outcome};
