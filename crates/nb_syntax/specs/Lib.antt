@@ -1,3 +1,0 @@
-pub mod Print
-pub mod FreeNames
-pub mod Generator

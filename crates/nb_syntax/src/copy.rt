@@ -2,7 +2,7 @@
 
 ghost use Rattle.std.specs.Prelude.{◌≡◌, ◌↔◌, IfOk, IsTrue};
 
-use crate::tree::{Body, Cell, Expr, Operand};
+use crate::tree::{Body, Cell, Expr, Member, Operand, PathStep};
 use nb_value::{Boxed, Items, Tree};
 use std::alloc::{AllocError, Global};
 
@@ -39,12 +39,15 @@ impl Tree for Body {
     fn copy(&self, alloc: Global) -> Result<Body, AllocError> {
         match self {
             Body::Expr(expr) => Ok(Body::Expr(expr.copy(alloc)?)),
+            Body::Block(block) => Ok(Body::Block(block.copy(alloc)?)),
         }
     }
 
     fn same(&self, other: &Body) -> bool {
         match (self, other) {
             (Body::Expr(a), Body::Expr(b)) => a.same(b),
+            (Body::Block(a), Body::Block(b)) => a.same(b),
+            _ => false,
         }
     }
 }
@@ -56,6 +59,29 @@ impl Tree for Expr {
 
     fn same(&self, other: &Expr) -> bool {
         same_expr(self, other)
+    }
+}
+
+impl Tree for Member {
+    fn copy(&self, alloc: Global) -> Result<Member, AllocError> {
+        Ok(Member {
+            key: self.key.copy(alloc)?,
+            value: self.value.copy(alloc)?,
+        })
+    }
+
+    fn same(&self, other: &Member) -> bool {
+        self.key.same(&other.key) && self.value.same(&other.value)
+    }
+}
+
+impl Tree for PathStep {
+    fn copy(&self, alloc: Global) -> Result<PathStep, AllocError> {
+        copy_step(self, alloc)
+    }
+
+    fn same(&self, other: &PathStep) -> bool {
+        same_step(self, other)
     }
 }
 
@@ -78,10 +104,35 @@ fn copy_expr(expr: &Expr, alloc: Global) -> Result<Expr, AllocError>
 {
     match expr {
         Expr::Int(n) => Ok(Expr::Int(*n)),
+        Expr::Quoted(text) => Ok(Expr::Quoted(text.copy(alloc)?)),
+        Expr::Bool(b) => Ok(Expr::Bool(*b)),
+        Expr::Null => Ok(Expr::Null),
         Expr::Name(name) => Ok(Expr::Name(name.copy(alloc)?)),
-        Expr::Sum(first, more) => Ok(Expr::Sum(
-            copy_boxed(first, alloc)?,
-            copy_operands(more, alloc)?,
+        Expr::List(items) => Ok(Expr::List(copy_exprs(items, alloc)?)),
+        Expr::Rec(members) => Ok(Expr::Rec(copy_members(members, alloc)?)),
+        Expr::Call(function, args) => Ok(Expr::Call(*function, copy_exprs(args, alloc)?)),
+        Expr::Fetch(key) => Ok(Expr::Fetch(copy_boxed(key, alloc)?)),
+        Expr::Path(root, steps) => Ok(Expr::Path(
+            copy_boxed(root, alloc)?,
+            copy_steps(steps, alloc)?,
+        )),
+        Expr::Unary(sign, a) => Ok(Expr::Unary(*sign, copy_boxed(a, alloc)?)),
+        Expr::Product(a, rest) => Ok(Expr::Product(
+            copy_boxed(a, alloc)?,
+            copy_operands(rest, alloc)?,
+        )),
+        Expr::Sum(a, rest) => Ok(Expr::Sum(copy_boxed(a, alloc)?, copy_operands(rest, alloc)?)),
+        Expr::Compare(sign, a, b) => Ok(Expr::Compare(
+            *sign,
+            copy_boxed(a, alloc)?,
+            copy_boxed(b, alloc)?,
+        )),
+        Expr::And(parts) => Ok(Expr::And(copy_exprs(parts, alloc)?)),
+        Expr::Or(parts) => Ok(Expr::Or(copy_exprs(parts, alloc)?)),
+        Expr::Choose(a, b, c) => Ok(Expr::Choose(
+            copy_boxed(a, alloc)?,
+            copy_boxed(b, alloc)?,
+            copy_boxed(c, alloc)?,
         )),
     }
 }
@@ -94,7 +145,35 @@ fn copy_boxed(boxed: &Boxed<Expr>, alloc: Global) -> Result<Boxed<Expr>, AllocEr
 }
 
 #[cycle(copy)]
-fn copy_operands(operands: &Items<Operand>, alloc: Global) -> Result<Items<Operand>, AllocError>
+fn copy_exprs(exprs: &Items<Expr>, alloc: Global) -> Result<Items<Expr>, AllocError>
+    ensures { IfOk result (λ v. v ≡ exprs.now) }
+{
+    let mut copies = Items::new(alloc);
+    for expr in exprs.as_slice() {
+        copies.push(copy_expr(expr, alloc)?)?;
+    }
+    Ok(copies)
+}
+
+#[cycle(copy)]
+fn copy_members(members: &Items<Member>, alloc: Global) -> Result<Items<Member>, AllocError>
+    ensures { IfOk result (λ v. v ≡ members.now) }
+{
+    let mut copies = Items::new(alloc);
+    for member in members.as_slice() {
+        copies.push(Member {
+            key: member.key.copy(alloc)?,
+            value: copy_expr(&member.value, alloc)?,
+        })?;
+    }
+    Ok(copies)
+}
+
+#[cycle(copy)]
+fn copy_operands(
+    operands: &Items<Operand>,
+    alloc: Global,
+) -> Result<Items<Operand>, AllocError>
     ensures { IfOk result (λ v. v ≡ operands.now) }
 {
     let mut copies = Items::new(alloc);
@@ -107,16 +186,90 @@ fn copy_operands(operands: &Items<Operand>, alloc: Global) -> Result<Items<Opera
     Ok(copies)
 }
 
+#[cycle(copy)]
+fn copy_steps(steps: &Items<PathStep>, alloc: Global) -> Result<Items<PathStep>, AllocError>
+    ensures { IfOk result (λ v. v ≡ steps.now) }
+{
+    let mut copies = Items::new(alloc);
+    for step in steps.as_slice() {
+        copies.push(copy_step(step, alloc)?)?;
+    }
+    Ok(copies)
+}
+
+#[cycle(copy)]
+fn copy_step(step: &PathStep, alloc: Global) -> Result<PathStep, AllocError>
+    ensures { IfOk result (λ v. v ≡ step.now) }
+{
+    match step {
+        PathStep::Field(name) => Ok(PathStep::Field(name.copy(alloc)?)),
+        PathStep::At(index) => Ok(PathStep::At(copy_expr(index, alloc)?)),
+    }
+}
+
 #[cycle(same)]
 fn same_expr(expr: &Expr, other: &Expr) -> bool
     ensures { IsTrue result ↔ (expr.now ≡ other.now) }
 {
     match (expr, other) {
         (Expr::Int(a), Expr::Int(b)) => *a == *b,
+        (Expr::Quoted(a), Expr::Quoted(b)) => a.same(b),
+        (Expr::Bool(a), Expr::Bool(b)) => *a == *b,
+        (Expr::Null, Expr::Null) => true,
         (Expr::Name(a), Expr::Name(b)) => a.same(b),
+        (Expr::List(a), Expr::List(b)) => same_exprs(a, b),
+        (Expr::Rec(a), Expr::Rec(b)) => same_members(a, b),
+        (Expr::Call(f, a), Expr::Call(g, b)) => *f == *g && same_exprs(a, b),
+        (Expr::Fetch(a), Expr::Fetch(b)) => same_expr(a.get(), b.get()),
+        (Expr::Path(a, s), Expr::Path(b, t)) => same_expr(a.get(), b.get()) && same_steps(s, t),
+        (Expr::Unary(s, a), Expr::Unary(t, b)) => *s == *t && same_expr(a.get(), b.get()),
+        (Expr::Product(a, s), Expr::Product(b, t)) => same_expr(a.get(), b.get())
+            && same_operands(s, t),
         (Expr::Sum(a, s), Expr::Sum(b, t)) => same_expr(a.get(), b.get()) && same_operands(s, t),
+        (Expr::Compare(s, a, b), Expr::Compare(t, c, d)) => *s == *t
+            && same_expr(a.get(), c.get())
+            && same_expr(b.get(), d.get()),
+        (Expr::And(a), Expr::And(b)) => same_exprs(a, b),
+        (Expr::Or(a), Expr::Or(b)) => same_exprs(a, b),
+        (Expr::Choose(a, b, c), Expr::Choose(d, e, f)) => same_expr(a.get(), d.get())
+            && same_expr(b.get(), e.get())
+            && same_expr(c.get(), f.get()),
         _ => false,
     }
+}
+
+#[cycle(same)]
+fn same_exprs(exprs: &Items<Expr>, other: &Items<Expr>) -> bool
+    ensures { IsTrue result ↔ (exprs.now ≡ other.now) }
+{
+    let xs = exprs.as_slice();
+    let ys = other.as_slice();
+    if xs.len() != ys.len() {
+        return false;
+    }
+    for i in 0..xs.len() {
+        if !same_expr(&xs[i], &ys[i]) {
+            return false;
+        }
+    }
+    true
+}
+
+#[cycle(same)]
+fn same_members(members: &Items<Member>, other: &Items<Member>) -> bool
+    ensures { IsTrue result ↔ (members.now ≡ other.now) }
+{
+    let xs = members.as_slice();
+    let ys = other.as_slice();
+    if xs.len() != ys.len() {
+        return false;
+    }
+    for i in 0..xs.len() {
+        if !(xs[i].key.same(&ys[i].key) && same_expr(&xs[i].value, &ys[i].value)) {
+            return false;
+        }
+    }
+    true
 }
 
 #[cycle(same)]
@@ -134,4 +287,32 @@ fn same_operands(operands: &Items<Operand>, other: &Items<Operand>) -> bool
         }
     }
     true
+}
+
+#[cycle(same)]
+fn same_steps(steps: &Items<PathStep>, other: &Items<PathStep>) -> bool
+    ensures { IsTrue result ↔ (steps.now ≡ other.now) }
+{
+    let xs = steps.as_slice();
+    let ys = other.as_slice();
+    if xs.len() != ys.len() {
+        return false;
+    }
+    for i in 0..xs.len() {
+        if !same_step(&xs[i], &ys[i]) {
+            return false;
+        }
+    }
+    true
+}
+
+#[cycle(same)]
+fn same_step(step: &PathStep, other: &PathStep) -> bool
+    ensures { IsTrue result ↔ (step.now ≡ other.now) }
+{
+    match (step, other) {
+        (PathStep::Field(a), PathStep::Field(b)) => a.same(b),
+        (PathStep::At(a), PathStep::At(b)) => same_expr(a, b),
+        _ => false,
+    }
 }

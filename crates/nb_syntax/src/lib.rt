@@ -2,14 +2,7 @@
 #![tactic(auto)]
 
 mod copy;
-mod free;
-mod length;
-mod printing;
-#[cfg(test)]
-mod tests;
+mod copy_stmt;
 mod tree;
 
-pub use free::{Names, free_names};
-pub use length::printed_len;
-pub use printing::print;
-pub use tree::{Body, Cell, Expr, Operand, Sign};
+pub use tree::{Arm, Block, Body, Cell, Expr, Member, Operand, PathStep, Sign, Stmt};

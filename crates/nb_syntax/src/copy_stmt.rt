@@ -1,0 +1,149 @@
+//! Copies of blocks and statements, and whether two are one.
+
+ghost use Rattle.std.specs.Prelude.{◌≡◌, ◌↔◌, IfOk, IsTrue};
+
+use crate::tree::{Arm, Block, Stmt};
+use nb_value::{Items, Tree};
+use std::alloc::{AllocError, Global};
+
+impl Tree for Block {
+    fn copy(&self, alloc: Global) -> Result<Block, AllocError> {
+        copy_block(self, alloc)
+    }
+
+    fn same(&self, other: &Block) -> bool {
+        same_block(self, other)
+    }
+}
+
+impl Tree for Arm {
+    fn copy(&self, alloc: Global) -> Result<Arm, AllocError> {
+        Ok(Arm {
+            test: self.test.copy(alloc)?,
+            body: self.body.copy(alloc)?,
+        })
+    }
+
+    fn same(&self, other: &Arm) -> bool {
+        self.test.same(&other.test) && self.body.same(&other.body)
+    }
+}
+
+impl Tree for Stmt {
+    fn copy(&self, alloc: Global) -> Result<Stmt, AllocError> {
+        copy_stmt(self, alloc)
+    }
+
+    fn same(&self, other: &Stmt) -> bool {
+        same_stmt(self, other)
+    }
+}
+
+#[cycle(copy_statements)]
+fn copy_block(block: &Block, alloc: Global) -> Result<Block, AllocError>
+    ensures { IfOk result (λ v. v ≡ block.now) }
+{
+    let mut copies = Items::new(alloc);
+    for stmt in block.stmts.as_slice() {
+        copies.push(copy_stmt(stmt, alloc)?)?;
+    }
+    Ok(Block { stmts: copies })
+}
+
+#[cycle(copy_statements)]
+fn copy_arms(arms: &Items<Arm>, alloc: Global) -> Result<Items<Arm>, AllocError>
+    ensures { IfOk result (λ v. v ≡ arms.now) }
+{
+    let mut copies = Items::new(alloc);
+    for arm in arms.as_slice() {
+        copies.push(Arm {
+            test: arm.test.copy(alloc)?,
+            body: copy_block(&arm.body, alloc)?,
+        })?;
+    }
+    Ok(copies)
+}
+
+#[cycle(copy_statements)]
+fn copy_stmt(stmt: &Stmt, alloc: Global) -> Result<Stmt, AllocError>
+    ensures { IfOk result (λ v. v ≡ stmt.now) }
+{
+    match stmt {
+        Stmt::Let(name, value) => Ok(Stmt::Let(name.copy(alloc)?, value.copy(alloc)?)),
+        Stmt::Assign(name, value) => Ok(Stmt::Assign(name.copy(alloc)?, value.copy(alloc)?)),
+        Stmt::If(arms, None) => Ok(Stmt::If(copy_arms(arms, alloc)?, None)),
+        Stmt::If(arms, Some(other)) => {
+            Ok(Stmt::If(copy_arms(arms, alloc)?, Some(copy_block(other, alloc)?)))
+        }
+        Stmt::While(test, body) => Ok(Stmt::While(test.copy(alloc)?, copy_block(body, alloc)?)),
+        Stmt::For(name, list, body) => Ok(Stmt::For(
+            name.copy(alloc)?,
+            list.copy(alloc)?,
+            copy_block(body, alloc)?,
+        )),
+        Stmt::Yield(value) => Ok(Stmt::Yield(value.copy(alloc)?)),
+        Stmt::Return(value) => Ok(Stmt::Return(value.copy(alloc)?)),
+        Stmt::Throw(value) => Ok(Stmt::Throw(value.copy(alloc)?)),
+        Stmt::Cleanup(value) => Ok(Stmt::Cleanup(value.copy(alloc)?)),
+    }
+}
+
+#[cycle(same_statements)]
+fn same_block(block: &Block, other: &Block) -> bool
+    ensures { IsTrue result ↔ (block.now ≡ other.now) }
+{
+    same_stmts(&block.stmts, &other.stmts)
+}
+
+#[cycle(same_statements)]
+fn same_stmts(stmts: &Items<Stmt>, other: &Items<Stmt>) -> bool
+    ensures { IsTrue result ↔ (stmts.now ≡ other.now) }
+{
+    let xs = stmts.as_slice();
+    let ys = other.as_slice();
+    if xs.len() != ys.len() {
+        return false;
+    }
+    for i in 0..xs.len() {
+        if !same_stmt(&xs[i], &ys[i]) {
+            return false;
+        }
+    }
+    true
+}
+
+#[cycle(same_statements)]
+fn same_arms(arms: &Items<Arm>, other: &Items<Arm>) -> bool
+    ensures { IsTrue result ↔ (arms.now ≡ other.now) }
+{
+    let xs = arms.as_slice();
+    let ys = other.as_slice();
+    if xs.len() != ys.len() {
+        return false;
+    }
+    for i in 0..xs.len() {
+        if !(xs[i].test.same(&ys[i].test) && same_block(&xs[i].body, &ys[i].body)) {
+            return false;
+        }
+    }
+    true
+}
+
+#[cycle(same_statements)]
+fn same_stmt(stmt: &Stmt, other: &Stmt) -> bool
+    ensures { IsTrue result ↔ (stmt.now ≡ other.now) }
+{
+    match (stmt, other) {
+        (Stmt::Let(a, b), Stmt::Let(c, d)) => a.same(c) && b.same(d),
+        (Stmt::Assign(a, b), Stmt::Assign(c, d)) => a.same(c) && b.same(d),
+        (Stmt::If(a, None), Stmt::If(b, None)) => same_arms(a, b),
+        (Stmt::If(a, Some(b)), Stmt::If(c, Some(d))) => same_arms(a, c) && same_block(b, d),
+        (Stmt::While(a, b), Stmt::While(c, d)) => a.same(c) && same_block(b, d),
+        (Stmt::For(a, b, c), Stmt::For(d, e, f)) => a.same(d) && b.same(e) && same_block(c, f),
+        (Stmt::Yield(a), Stmt::Yield(b)) => a.same(b),
+        (Stmt::Return(a), Stmt::Return(b)) => a.same(b),
+        (Stmt::Throw(a), Stmt::Throw(b)) => a.same(b),
+        (Stmt::Cleanup(a), Stmt::Cleanup(b)) => a.same(b),
+        _ => false,
+    }
+}
