@@ -3,6 +3,10 @@
 
 mod copy;
 mod copy_stmt;
+mod generator;
+mod plain;
 mod tree;
 
+pub use generator::is_generator;
+pub use plain::is_plain;
 pub use tree::{Arm, Block, Body, Cell, Expr, Member, Operand, PathStep, Sign, Stmt};
