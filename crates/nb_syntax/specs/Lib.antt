@@ -1,2 +1,3 @@
 pub mod Generator
 pub mod Plain
+pub mod Sums

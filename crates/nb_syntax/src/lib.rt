@@ -5,8 +5,10 @@ mod copy;
 mod copy_stmt;
 mod generator;
 mod plain;
+mod sums;
 mod tree;
 
 pub use generator::is_generator;
 pub use plain::is_plain;
+pub use sums::is_sum;
 pub use tree::{Arm, Block, Body, Cell, Expr, Member, Operand, PathStep, Sign, Stmt};
