@@ -5,6 +5,7 @@ use Rattle.std.proofs.lemmas.Option.{none-some}
 use Rattle.nb_value.specs.declared.value.Value.{Value}
 use Rattle.nb_value.specs.declared.pairs.Field.{Field}
 use Rattle.nb_syntax.specs.declared.tree.Cell.{Cell}
+use Rattle.nb_syntax.specs.Plain.{is_plain}
 use Rattle.nb_log.specs.Printing.{entry_size}
 use Rattle.nb_log.specs.declared.row.VarRow.{VarRow}
 use Rattle.nb_log.specs.declared.edit.Edit.TheVariants.{AddCell}
@@ -72,7 +73,7 @@ module _ (builtins : List (Field Value)) (rows : List VarRow) (starts : List (Op
 -- ---- an admitted one adds a row and an idle variable
 
 module _ (builtins : List (Field Value)) (rows : List VarRow) (starts : List (Option Start)) (log : List Entry) (state : IsState builtins rows starts log) (quiet : IsQuietLog builtins log)
-    (editor : ℕ) (low : editor < 8) (cell : Cell) (admits : admit (reading builtins log) editor (adding cell) ≡ Edit editor (AddCell 0 cell true)) where
+    (editor : ℕ) (low : editor < 8) (cell : Cell) (plain : is_plain cell ≡ true) (admits : admit (reading builtins log) editor (adding cell) ≡ Edit editor (AddCell 0 cell true)) where
   abbrev entry : Entry
   entry = Edit editor (AddCell 0 cell true)
 
@@ -96,7 +97,7 @@ module _ (builtins : List (Field Value)) (rows : List VarRow) (starts : List (Op
         legal = legal_append (nothing_yet builtins) log (entry ∷ []) state.legal ((quiet.1, (editor, adding cell, low, sym admits)), tt);
         plain = λ v row there. elim (nth_push rows (row_of cell (length log + 1)) v row there) [
           | inl old ↦ state.plain v row old
-          | inr same ↦ subst (λ (x : VarRow). (x.observed ≡ true) × (is_cell x.body ≡ true)) same (refl, refl)
+          | inr same ↦ subst (λ (x : VarRow). (x.observed ≡ true) × (is_cell x.body ≡ true)) same (refl, plain)
         ];
         bare = λ v s there. subst (λ (n : ℕ). IsBare n s) (sym len_added) (elim (nth_push starts None v (Some s) there) [
           | inl old ↦ older_bare (length log) s (state.bare v s old)

@@ -1,4 +1,4 @@
--- The evaluation of a cell ends with a value or an error, and cleans up nothing.
+-- The evaluation of a plain cell ends with a value or an error, and cleans up nothing.
 use Rattle.std.proofs.Common.{inl, inr, ℕ, ◌≡◌, refl, sym, ◌∙◌, ap, subst, Bool, true, false, List, [], ◌∷◌, Option, Some, None, is_some}
 use Rattle.std.proofs.lemmas.Bool.{false≢true}
 use Rattle.nb_value.specs.declared.value.Value.{Value}
@@ -6,10 +6,9 @@ use Rattle.nb_value.specs.declared.pairs.Field.{Field}
 use Rattle.nb_value.specs.declared.outcome.Answer.{Answer}
 use Rattle.nb_value.specs.declared.outcome.CellError.{CellError}
 use Rattle.nb_value.specs.declared.outcome.Outcome.{Outcome}
-use Rattle.nb_syntax.specs.Generator.{is_generator, yields}
+use Rattle.nb_syntax.specs.Plain.{is_plain}
+use Rattle.nb_syntax.proofs.PlainLemmas.{plain_yields}
 use Rattle.nb_syntax.specs.declared.tree.Cell.{Cell}
-use Rattle.nb_syntax.specs.declared.tree.Body.{Body}
-use Rattle.nb_syntax.specs.declared.tree.Body.TheVariants as body
 use Rattle.nb_eval.specs.Evaluation.{Evaluated}
 use Rattle.nb_eval.specs.declared.given.Ending.{Ending}
 use Rattle.nb_eval.specs.declared.given.Ending.TheVariants.{Done, Failed}
@@ -24,13 +23,10 @@ pub cell_is_some : (b : Option BodyOf) → is_cell b ≡ true → is_some b ≡ 
 cell_is_some None h = absurd (false≢true h)
 cell_is_some (Some b) h = refl
 
-body_yields : (b : Body) → yields b ≡ false
-body_yields (body.Expr e) = refl
-
 pub never_generates : (b : Option BodyOf) → is_cell b ≡ true → generates b ≡ false
 never_generates None h = absurd (false≢true h)
 never_generates (Some (ImportBody n from)) h = absurd (false≢true h)
-never_generates (Some (CellBody cell)) h = body_yields cell.body
+never_generates (Some (CellBody cell)) h = plain_yields cell h
 
 well_outcome : (ys : List Value) (e : Ending) → EndsWell e → outcome_of false ys e ≡ Some (ending_outcome e)
 well_outcome ys e (inl p) = ap (λ (x : Ending). outcome_of false ys x) p.1 ∙ sym (ap (λ (x : Ending). Some (ending_outcome x)) p.1)
@@ -47,7 +43,7 @@ module _ (b : Option BodyOf) (values : List (Field Value)) (answers : List Answe
       go : (b : Option BodyOf) → is_cell b ≡ true → EndsWell (Evaluated.ending (run_body b values answers pulls))
       go None h = absurd (false≢true h)
       go (Some (ImportBody n from)) h = absurd (false≢true h)
-      go (Some (CellBody cell)) h = ends cell values answers pulls
+      go (Some (CellBody cell)) h = ends cell values answers pulls h
 
   -- what it shows
   pub cell_outcome : outcome_of (generates b) (Evaluated.yields (run_body b values answers pulls)) (Evaluated.ending (run_body b values answers pulls)) ≡ Some (ending_outcome (Evaluated.ending (run_body b values answers pulls)))
@@ -67,4 +63,4 @@ module _ (b : Option BodyOf) (values : List (Field Value)) (answers : List Answe
       go : (b : Option BodyOf) → is_cell b ≡ true → Evaluated.cleanups (run_body b values answers pulls) ≡ []
       go None h = absurd (false≢true h)
       go (Some (ImportBody n from)) h = absurd (false≢true h)
-      go (Some (CellBody cell)) h = no_cleanups cell values answers pulls
+      go (Some (CellBody cell)) h = no_cleanups cell values answers pulls h

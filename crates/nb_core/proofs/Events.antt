@@ -3,6 +3,7 @@ use Rattle.std.proofs.Common.{ℕ, ◌≡◌, ◌+◌, ◌<◌, ◌≤◌, refl,
 use Rattle.nb_value.specs.declared.value.Value.{Value}
 use Rattle.nb_value.specs.declared.pairs.Field.{Field}
 use Rattle.nb_syntax.specs.declared.tree.Cell.{Cell}
+use Rattle.nb_syntax.specs.Plain.{is_plain}
 use Rattle.nb_log.specs.Size.{total_size}
 use Rattle.nb_log.specs.declared.row.VarRow.{VarRow}
 use Rattle.nb_log.specs.declared.edit.Edit.{Edit as EditValue}
@@ -27,6 +28,12 @@ use Rattle.nb_core.proofs.Cores.{history, same_rows, refused, added}
 
 edit_same : (a b : EditValue) → EditEvent a ≡ EditEvent b → a ≡ b
 edit_same a b h = cc
+
+cell_same : (a b : Cell) → adding a ≡ adding b → a ≡ b
+cell_same a b h = cc
+
+plain_of : (event : Event) (cell : Cell) → IsAddedCell event → event ≡ adding cell → is_plain cell ≡ true
+plain_of event cell form is = subst (λ (c : Cell). is_plain c ≡ true) (cell_same form.0 cell (sym form.1 ∙ is)) form.2
 
 module _ (builtins : List (Field Value)) (rows : List VarRow) (starts : List (Option Start)) (log : List Entry) (core : IsCore builtins rows starts log) (self : History) (same : history builtins log ≡ self) (editor : ℕ) where
   event_here : (event : Event) → admit (standing self) editor event ≡ admit (reading builtins log) editor event
@@ -57,7 +64,7 @@ module _ (builtins : List (Field Value)) (rows : List VarRow) (starts : List (Op
     ap (admit (standing self) editor) form.1 ∙ event_here (adding form.0) ∙ admit_edit builtins rows starts log core.state editor form.0 (omega (arith, room, size_total builtins log)) few,
   )
 
-  module _ (low : editor < 8) (event : Event) (cell : Cell) (is : event ≡ adding cell) (admitted : IsAdmitted (standing self) editor event) (place : ℕ) (at : place ≡ length log + 1) where
+  module _ (low : editor < 8) (event : Event) (cell : Cell) (is : event ≡ adding cell) (form : IsAddedCell event) (admitted : IsAdmitted (standing self) editor event) (place : ℕ) (at : place ≡ length log + 1) where
     cell_here : admitted.0 ≡ AddCell 0 cell true
     cell_here = edit_same admitted.0 (AddCell 0 cell true) (sym admitted.1 ∙ is)
 
@@ -67,7 +74,7 @@ module _ (builtins : List (Field Value)) (rows : List VarRow) (starts : List (Op
     added_state : IsState builtins (rows ++ row_of cell place ∷ []) (starts ++ None ∷ []) (log ++ Edit editor (AddCell 0 cell true) ∷ [])
     added_state =
         subst (λ (n : ℕ). IsState builtins (rows ++ row_of cell n ∷ []) (starts ++ None ∷ []) (log ++ Edit editor (AddCell 0 cell true) ∷ [])) (sym at)
-        (state_added builtins rows starts log core.state core.quiet editor low cell admits)
+        (state_added builtins rows starts log core.state core.quiet editor low cell (plain_of event cell form is) admits)
 
     place_len : place ≡ length (log ++ Edit editor (AddCell 0 cell true) ∷ [])
     place_len = at ∙ sym (length-append log (Edit editor (AddCell 0 cell true) ∷ []))

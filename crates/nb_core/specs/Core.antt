@@ -6,6 +6,8 @@ use Rattle.nb_value.specs.declared.value.Value.TheVariants.{Null}
 use Rattle.nb_value.specs.declared.pairs.Field.{Field}
 use Rattle.nb_value.specs.declared.outcome.Outcome.{Outcome}
 use Rattle.nb_value.specs.declared.outcome.Outcome.TheVariants.{Value as Shows, Error as Fails}
+use Rattle.nb_syntax.specs.declared.tree.Cell.{Cell}
+use Rattle.nb_syntax.specs.Plain.{is_plain}
 use Rattle.nb_eval.specs.declared.given.Segment.{Segment}
 use Rattle.nb_eval.specs.declared.work.Work.{Work}
 use Rattle.nb_eval.specs.declared.work.Work.TheVariants.{Direct, Run}
@@ -34,9 +36,9 @@ use Rattle.nb_core.specs.declared.placed.Shown.{Shown as ShownNow}
 use Rattle.nb_core.specs.declared.placed.Shown.TheVariants as now
 use Rattle.nb_core.specs.State.{ending_outcome}
 
--- the event of an added observed cell of module 0
+-- the event of an added observed cell of module 0 that neither fetches, yields nor cleans up
 abbrev pub IsAddedCell : Event → Type 0
-IsAddedCell event = (cell : _) × (event ≡ EditEvent (AddCell 0 cell true))
+IsAddedCell event = (cell : Cell) × (event ≡ EditEvent (AddCell 0 cell true)) × (is_plain cell ≡ true)
 
 -- the place of v's `pending` entry in its present start, and 0 for an idle v
 abbrev pub start_number : Reading → ℕ → ℕ

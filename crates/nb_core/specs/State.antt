@@ -10,6 +10,7 @@ use Rattle.nb_eval.specs.Evaluation.{Evaluated}
 use Rattle.nb_eval.specs.declared.given.Ending.{Ending}
 use Rattle.nb_eval.specs.declared.given.Ending.TheVariants.{Paused, Needs, Done, Failed}
 use Rattle.nb_syntax.specs.declared.tree.Cell.{Cell}
+use Rattle.nb_syntax.specs.Plain.{is_plain}
 use Rattle.nb_log.specs.declared.row.BodyOf.{BodyOf}
 use Rattle.nb_log.specs.declared.row.BodyOf.TheVariants.{Cell as CellBody, Import as ImportBody}
 use Rattle.nb_log.specs.declared.row.VarRow.{VarRow}
@@ -141,7 +142,7 @@ abbrev pub row_of : Cell → ℕ → VarRow
 row_of cell place = record { «module» = 0; observed = true; name = cell.name; body = Some (CellBody cell); place = place }
 
 abbrev pub is_cell : Option BodyOf → Bool
-is_cell (Some (CellBody cell)) = true
+is_cell (Some (CellBody cell)) = is_plain cell
 is_cell (Some (ImportBody name from)) = false
 is_cell None = false
 

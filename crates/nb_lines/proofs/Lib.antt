@@ -1,4 +1,2 @@
-pub mod CellLemmas
 pub mod FormLemmas
-pub mod GrammarLemmas
 pub mod LineLemmas

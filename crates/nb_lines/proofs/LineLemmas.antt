@@ -13,21 +13,22 @@ use Rattle.nb_log.specs.declared.edit.Edit.TheVariants.{AddCell}
 use Rattle.nb_log.specs.declared.event.Event.TheVariants as event
 use Rattle.std.proofs.lemmas.Option.{same_Some}
 use Rattle.serde_json.specs.Data.{Data}
-use Rattle.nb_lines.specs.Cells.{spelled}
-use Rattle.nb_lines.specs.Form.{line_event, line_data, cell_text, text_event, data_event}
+use Rattle.nb_syntax.specs.Plain.{is_plain}
+use Rattle.nb_parser.specs.Parse.{cell_of}
+use Rattle.nb_lines.specs.Form.{line_event, line_data, cell_text, cell_event, only_plain, text_event, data_event}
 use Rattle.nb_lines.specs.Lines.{lines, is_blank, is_within, is_passed, told, is_bad, fault_of, fault_among, script, scripts_before, Reads, AddsLine, AddsCell, AllAddCells, most_lines, longest_line}
 
 -- ---- tests
 
-second : (a b c : Bool) → b ≡ true → (a || b || c) ≡ true
-second true b c e = refl
-second false true c e = refl
-second false false c e = absurd (false≢true e)
+first : (b c : Bool) → b ≡ false → (not b || c) ≡ true
+first b c e = rw e refl
 
-third : (a b c : Bool) → c ≡ true → (a || b || c) ≡ true
-third true b c e = refl
-third false true c e = refl
-third false false c e = e
+last : (b c : Bool) → c ≡ false → (not b || not c) ≡ true
+last true c e = rw e refl
+last false c e = refl
+
+neither : (b c : Bool) → b ≡ true → c ≡ true → (not b || not c) ≡ false
+neither b c d e = rw (d, e) refl
 
 -- ---- one line
 
@@ -74,14 +75,14 @@ pub too_many_lines : (n : ℕ) (line : List ℕ) → 65536 < n → fault_among (
 unfolding is_within is_bad fault_of
 too_many_lines n line far =
     let outside : (nat_le n 65536 && nat_le (length line) 65536) ≡ false = rw (lt-leb n 65536 far) refl in
-    let bad : is_bad (n, line) ≡ true = third _ (nat_lt 200 (length line)) (nat_lt 64 n) (lt-ltb 64 n (omega arith)) in
+    let bad : is_bad (n, line) ≡ true = first (is_within (n, line)) (not (is_some (line_event line))) outside in
     bad_alone n line bad (passed_not (is_blank line) (is_within (n, line)) outside) ∙ ap (λ (x : LineFail). Some x) (rw (lt-ltb 65536 n far) refl)
 
 pub line_too_long : (n : ℕ) (line : List ℕ) → n ≤ 65536 → 65536 < length line → fault_among (told n (line ∷ [])) ≡ Some (Bad n LineTooLong)
 unfolding is_within is_bad fault_of
 line_too_long n line near long =
     let outside : (nat_le n 65536 && nat_le (length line) 65536) ≡ false = rw (le-leb n 65536 near, lt-leb (length line) 65536 long) refl in
-    let bad : is_bad (n, line) ≡ true = second _ (nat_lt 200 (length line)) (nat_lt 64 n) (lt-ltb 200 (length line) (omega arith)) in
+    let bad : is_bad (n, line) ≡ true = first (is_within (n, line)) (not (is_some (line_event line))) outside in
     bad_alone n line bad (passed_not (is_blank line) (is_within (n, line)) outside) ∙ ap (λ (x : LineFail). Some x) (rw (le-ltb 65536 n near, lt-ltb 65536 (length line) long) refl)
 
 -- a line within the limits of the input that isn't blank and isn't read
@@ -92,28 +93,16 @@ not_built : (n : ℕ) (line : List ℕ) → is_bad (n, line) ≡ true → AddsBa
 not_built n line bad near short text =
     bad_alone n line bad (not_passed (is_blank line) (is_within (n, line)) text) ∙ ap (λ (x : LineFail). Some x) (built_fault n line near short)
 
-none_of : (a b c : Bool) → a ≡ false → b ≡ false → c ≡ false → (a || b || c) ≡ false
-none_of a b c d e f = rw (d, e, f)
-
-pub too_long : (n : ℕ) (line : List ℕ) → 200 < length line → AddsBad n line
-unfolding is_bad
-too_long n line h = not_built n line (second _ (nat_lt 200 (length line)) (nat_lt 64 n) (lt-ltb 200 (length line) h))
-
-pub too_far : (n : ℕ) (line : List ℕ) → 64 < n → AddsBad n line
-unfolding is_bad
-too_far n line h = not_built n line (third _ (nat_lt 200 (length line)) (nat_lt 64 n) (lt-ltb 64 n h))
-
 pub no_event : (n : ℕ) (line : List ℕ) → line_event line ≡ None → AddsBad n line
 unfolding is_bad
-no_event n line h = not_built n line (ap (λ o. not (is_some o) || nat_lt 200 (length line) || nat_lt 64 n) h)
+no_event n line h = not_built n line (last (is_within (n, line)) (is_some (line_event line)) (ap is_some h))
 
 -- a line that is read
-pub good_alone : (n : ℕ) (line : List ℕ) (e : Event) → is_blank line ≡ false → length line ≤ 200 → n ≤ 64 → line_event line ≡ Some e
+pub good_alone : (n : ℕ) (line : List ℕ) (e : Event) → is_blank line ≡ false → length line ≤ 65536 → n ≤ 65536 → line_event line ≡ Some e
     → (fault_among (told n (line ∷ [])) ≡ None) × (scripts_before (told n (line ∷ [])) ≡ record { editor = 0; event = e } ∷ [])
 unfolding is_bad
 good_alone n line e blank short near says =
-    let good : is_bad (n, line) ≡ false =
-    none_of (not (is_some (line_event line))) (nat_lt 200 (length line)) (nat_lt 64 n) (ap (λ o. not (is_some o)) says) (le-ltb 200 (length line) short) (le-ltb 64 n near) in (
+    let good : is_bad (n, line) ≡ false = neither (is_within (n, line)) (is_some (line_event line)) (within n line near short) (ap is_some says) in (
       ap fault_among (told-line n line (not_passed (is_blank line) (is_within (n, line)) blank)) ∙ fault_among-good n line good,
       ap scripts_before (told-line n line (not_passed (is_blank line) (is_within (n, line)) blank)) ∙ ap (filter_map (λ (p : ℕ × List ℕ). script p.1)) (kept (n, line) [] good)
           ∙ ap (λ o. cons_option (option_map (λ (v : Event). let s : ScriptLine = record { editor = 0; event = v } in s) o) []) says,
@@ -230,13 +219,16 @@ abbrev of_editor_0 : Event → ScriptLine
 of_editor_0 e = record { editor = 0; event = e }
 
 from_text : (t : List ℕ) (s : ScriptLine) → option_map of_editor_0 (text_event t) ≡ Some s → AddsCell s
-from_text t s e = go (spelled t) e
+from_text t s e = go (cell_of t) e
   where
-    go : (o : Option Cell) → option_map of_editor_0 (option_map (λ (c : Cell). event.Edit (AddCell 0 c true)) o) ≡ Some s → AddsCell s
-    go None e = cc
-    go (Some c) e =
+    told_by : (c : Cell) (b : Bool) → is_plain c ≡ b → option_map of_editor_0 (option_map cell_event (cond b (Some c) None)) ≡ Some s → AddsCell s
+    told_by c false p e = cc
+    told_by c true p e =
         let same : of_editor_0 (event.Edit (AddCell 0 c true)) ≡ s = same_Some (of_editor_0 (event.Edit (AddCell 0 c true))) s e in
-        (sym (ap (λ (x : ScriptLine). x.editor) same), (c, sym (ap (λ (x : ScriptLine). x.event) same)))
+        (sym (ap (λ (x : ScriptLine). x.editor) same), (c, sym (ap (λ (x : ScriptLine). x.event) same), p))
+    go : (o : Option Cell) → option_map of_editor_0 (option_map cell_event (option_and_then only_plain o)) ≡ Some s → AddsCell s
+    go None e = cc
+    go (Some c) e = told_by c (is_plain c) refl e
 
 from_data : (o : Option (List ℕ)) (s : ScriptLine) → option_map of_editor_0 (option_and_then text_event o) ≡ Some s → AddsCell s
 from_data None s e = cc

@@ -1,5 +1,5 @@
 -- What one line says: the form of its object, and its event.
-use Rattle.std.specs.Prelude.{◌≡◌, ℕ, ◌==◌, Bool, true, false, ◌&&◌, List, codes, Option, None, option_map, option_and_then, Result, Ok, Err, if◌then◌else◌}
+use Rattle.std.specs.Prelude.{◌≡◌, ℕ, ◌==◌, Bool, true, false, ◌&&◌, List, codes, Option, Some, None, option_map, option_and_then, Result, Ok, Err, if◌then◌else◌}
 use Rattle.std.specs.Option.{option_map_or}
 use Rattle.std.specs.Str.{is_utf8, bytes_eq}
 use Rattle.serde_json.specs.Data.{Data}
@@ -9,12 +9,13 @@ use Rattle.serde_json.specs.Read.{read}
 use Rattle.serde_json.specs.View.{view}
 use Rattle.serde_json.specs.declared.value.Value.{Value as Tree}
 use Rattle.nb_syntax.specs.declared.tree.Cell.{Cell}
+use Rattle.nb_syntax.specs.Plain.{is_plain}
+use Rattle.nb_parser.specs.Parse.{cell_of}
 use Rattle.nb_log.specs.declared.edit.Edit.TheVariants.{AddCell}
 use Rattle.nb_log.specs.declared.event.Event.{Event}
 use Rattle.nb_log.specs.declared.event.Event.TheVariants as event
 use Rattle.nb_lines.specs.declared.script.LineFail.{LineFail}
 use Rattle.nb_lines.specs.declared.script.LineFail.TheVariants.{Memory}
-use Rattle.nb_lines.specs.Cells.{spelled}
 
 -- how many fields an object has, each key counted once
 abbrev pub field_count : Data → ℕ
@@ -50,8 +51,16 @@ line_data line = if is_utf8 line then read line else None
 abbrev pub cell_event : Cell → Event
 cell_event c = event.Edit (AddCell 0 c true)
 
+-- a cell that neither fetches, yields nor cleans up
+abbrev pub only_plain : Cell → Option Cell
+only_plain c = if is_plain c then Some c else None
+
+-- the cell that a text spells, if it spells such a one
+abbrev pub plain_cell : List ℕ → Option Cell
+plain_cell text = option_and_then only_plain (cell_of text)
+
 abbrev pub text_event : List ℕ → Option Event
-text_event text = option_map cell_event (spelled text)
+text_event text = option_map cell_event (plain_cell text)
 
 abbrev pub data_event : Data → Option Event
 data_event d = option_and_then text_event (cell_text d)

@@ -1,4 +1,2 @@
-pub mod Cells
 pub mod Form
-pub mod Grammar
 pub mod Lines

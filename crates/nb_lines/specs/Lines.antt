@@ -2,6 +2,7 @@
 use Rattle.std.specs.Prelude.{◌≡◌, ℕ, ◌-◌, ◌==◌, Bool, true, false, not, ◌&&◌, ◌||◌, List, [], ◌∷◌, ◌++◌, length, map, filter, find, take, take_while, get_or, Option, Some, None, option_map, is_some, Result, Ok, Err, nat_lt, nat_le, if◌then◌else◌, ⊤}
 use Rattle.std.specs.List.{slice_split, enumerate_from, filter_map, list_all}
 use Rattle.nb_syntax.specs.declared.tree.Cell.{Cell}
+use Rattle.nb_syntax.specs.Plain.{is_plain}
 use Rattle.nb_log.specs.declared.edit.Edit.TheVariants.{AddCell}
 use Rattle.nb_log.specs.declared.event.Event.{Event}
 use Rattle.nb_log.specs.declared.event.Event.TheVariants as event
@@ -41,9 +42,9 @@ is_passed p = is_blank p.1 && is_within p
 abbrev pub told : ℕ → List (List ℕ) → List (ℕ × List ℕ)
 told n ls = filter (λ p. not (is_passed p)) (enumerate_from n ls)
 
--- not of the form that is read, or too long, or too far down
+-- past the limits of the input, or not of the form that is read
 unfoldable pub is_bad : ℕ × List ℕ → Bool
-is_bad p = not (is_some (line_event p.1)) || nat_lt 200 (length p.1) || nat_lt 64 p.0
+is_bad p = not (is_within p) || not (is_some (line_event p.1))
 
 -- why a line with this number is not read, if it isn't: first by the limits of the input
 unfoldable pub fault_of : ℕ × List ℕ → LineFail
@@ -79,9 +80,9 @@ Reads fault said (Err Memory) = ⊤
 abbrev pub ReadsLines : List ℕ → Result (List ScriptLine) LineFail → Type 0
 ReadsLines bytes result = Reads (first_fault bytes) (scripts bytes) result
 
--- a line of editor 0 that adds an observed cell to module 0
+-- a line of editor 0 that adds an observed cell to module 0, which neither fetches, yields nor cleans up
 abbrev pub AddsCell : ScriptLine → Type 0
-AddsCell s = (s.editor ≡ 0) × ((cell : Cell) × (s.event ≡ event.Edit (AddCell 0 cell true)))
+AddsCell s = (s.editor ≡ 0) × ((cell : Cell) × (s.event ≡ event.Edit (AddCell 0 cell true)) × (is_plain cell ≡ true))
 
 abbrev pub AllAddCells : List ScriptLine → Type 0
 AllAddCells [] = ⊤

@@ -1,11 +1,12 @@
 ghost use Rattle.std.specs.Prelude.{◌≡◌, ◌↔◌, IsTrue, IfOk, option_map};
 ghost use Rattle.serde_json.specs.Errors.{IsMemory};
 ghost use Rattle.serde_json.specs.View.{view};
-ghost use Rattle.nb_lines.specs.Form.{ReadsData, ReadsEvent, field_count, text_at, number_at, does_cell, is_of_module_zero, has_form, cell_text, text_event, data_event};
+ghost use Rattle.nb_lines.specs.Form.{ReadsData, ReadsEvent, field_count, text_at, number_at, does_cell, is_of_module_zero, has_form, cell_text, plain_cell, text_event, data_event};
 
-use crate::cells::cell_of_text;
 use crate::script::LineFail;
 use nb_log::{Edit, Event};
+use nb_parser::{ParseError, parse_cell};
+use nb_syntax::{Cell, is_plain};
 use serde_json::{Category, Value as Tree};
 use std::alloc::{AllocError, Global};
 
@@ -32,13 +33,30 @@ fn event_of_tree(alloc: Global, tree: &Tree) -> Result<Option<Event>, AllocError
 fn event_of_text(alloc: Global, text: &str) -> Result<Option<Event>, AllocError>
     ensures { IfOk result (λ o. o ≡ text_event text.now) }
 {
-    match cell_of_text(alloc, text.as_bytes())? {
+    match plain_cell(alloc, text)? {
         Some(cell) => Ok(Some(Event::Edit(Edit::AddCell {
             module: 0,
             cell,
             observed: true,
         }))),
         None => Ok(None),
+    }
+}
+
+/// The cell that a text spells, if it neither fetches, yields nor cleans up.
+fn plain_cell(alloc: Global, text: &str) -> Result<Option<Cell>, AllocError>
+    ensures { IfOk result (λ o. o ≡ plain_cell text.now) }
+{
+    match parse_cell(alloc, text) {
+        Ok(cell) => {
+            if is_plain(&cell) {
+                Ok(Some(cell))
+            } else {
+                Ok(None)
+            }
+        }
+        Err(ParseError::Memory) => Err(AllocError),
+        Err(_) => Ok(None),
     }
 }
 

@@ -7,12 +7,6 @@ use crate::script::{BadReason, LineFail, ScriptLine, Scripts};
 use nb_value::Items;
 use std::alloc::Global;
 
-/// The most bytes of a line that is built.
-const LONGEST: usize = 200;
-
-/// The number of the last line that is built.
-const LAST: u32 = 64;
-
 /// The most lines that an input may have.
 const MOST_LINES: u32 = 65_536;
 
@@ -103,9 +97,6 @@ fn add_line(alloc: Global, found: &mut Scripts, number: u32, line: &[u8]) -> Res
     }
     if is_blank(line) {
         return Ok(());
-    }
-    if LONGEST < line.len() || LAST < number {
-        return Err(LineFail::NotBuilt(number));
     }
     match event_of_line(alloc, line)? {
         Some(event) => {

@@ -15,19 +15,19 @@ fn cells() -> [(&'static str, bool); 18] {
         ("\\n _x\\t=\\r lets ", true),
         ("x = )", false),
         ("foo(1)", false),
-        ("x == 1", false),
-        ("x = 0", true),
+        ("x == 1", true),
         ("x = 007", false),
-        ("x = 1x", false),
         ("1x = 1", false),
-        ("x = 1 2", false),
-        ("x = -1", false),
+        ("x = -1", true),
+        ("x = (1)", true),
         ("x = 1 +", false),
-        ("x =", false),
         ("let = 1", false),
-        ("x = null", false),
+        ("{ return 1; }", true),
+        ("x = { let a = [1]; for (let b of a) { a = a + b; } }", true),
+        ("x = fetch(1)", false),
+        ("x = { yield 1; }", false),
+        ("x = { if (a) { cleanup 1; } }", false),
         ("x = \\u00e9", false),
-        ("x = 9223372036854775807", true),
         ("x = 9223372036854775808", false),
     ]
 }
@@ -100,22 +100,10 @@ fn finds_the_first_line_that_is_not_read(rt: HostRuntime) -> Result<(), Fail> {
 #[test]
 fn keeps_the_limits(rt: HostRuntime) -> Result<(), Fail> {
     let alloc = rt.alloc();
-    let longest = format!(in alloc; "{GOOD:<200}\n{GOOD:<200}")?;
+    let longest = format!(in alloc; "{GOOD:<65536}\n{GOOD:<65536}")?;
     assert_eq!(rt; first_bad(alloc, longest.as_bytes())?, 0);
-    let longer = format!(in alloc; "{GOOD}\n{GOOD:<201}")?;
+    let longer = format!(in alloc; "{GOOD}\n{GOOD:<65537}")?;
     assert_eq!(rt; first_bad(alloc, longer.as_bytes())?, 2);
-    let mut many = String::new(alloc);
-    for _ in 0..64 {
-        many.push_str(GOOD)?;
-        many.push_str("\n")?;
-    }
-    assert_eq!(rt; first_bad(alloc, many.as_bytes())?, 0);
-    let further = format!(in alloc; "{many}{GOOD}\n")?;
-    assert_eq!(rt; first_bad(alloc, further.as_bytes())?, 65);
-    many.push_str(" \n")?;
-    assert_eq!(rt; first_bad(alloc, many.as_bytes())?, 0);
-    many.push_str(GOOD)?;
-    assert_eq!(rt; first_bad(alloc, many.as_bytes())?, 66);
     Ok(())
 }
 

@@ -1,10 +1,13 @@
 -- A run of lines keeps their history, and what is promised of it.
 use Rattle.std.proofs.Common.{ℕ, zero, suc, ◌≡◌, ◌<◌, ◌≤◌, ◌+◌, refl, sym, ◌∙◌, ap, subst, Bool, true, false, List, [], ◌∷◌, ◌++◌, append_assoc, length, drop, get_or, drop-cons, add-one, map, arith, Option, Some, None}
 use Rattle.std.proofs.lemmas.Bool.{false≢true}
+use Rattle.std.proofs.lemmas.Option.{none-some}
 use Rattle.nb_value.specs.declared.value.Value.{Value}
 use Rattle.nb_value.specs.declared.pairs.Field.{Field}
 use Rattle.nb_log.specs.declared.event.Event.{Event}
 use Rattle.nb_log.specs.declared.entry.Entry.{Entry}
+use Rattle.nb_log.specs.declared.row.VarRow.{VarRow}
+use Rattle.nb_history.specs.Lists.{nth}
 use Rattle.nb_history.specs.Reading.{Reading}
 use Rattle.nb_history.specs.Rules.{wanted}
 use Rattle.nb_history.specs.Log.{nothing_yet, after, reading, read_from, admit, IsLegal, RestsAfter}
@@ -18,7 +21,9 @@ use Rattle.nb_core.proofs.Runs.{IsRun, run_goes_on, run_ends}
 use Rattle.nb_lines.specs.declared.script.ScriptLine.{ScriptLine}
 use Rattle.nb_lines.specs.Lines.{script_lines, AddsCell, AllAddCells}
 use Rattle.nb_main.specs.Run.{TakesLine}
-use Rattle.nb_main.proofs.TicketLemmas.{AllSmall, small_append, small_admit, small_serial}
+use Rattle.nb_core.specs.State.{IsPlain}
+use Rattle.nb_history.specs.Sheet.{Sheet}
+use Rattle.nb_main.proofs.TicketLemmas.{AllSmall, small_append, small_admit, plain_admit, calm_serial}
 
 -- of the lines, those that are left are still to come, and all that is promised holds so far
 pub record IsRunning (lines left : List ScriptLine) (h : History) : Type 0 where
@@ -26,6 +31,7 @@ pub record IsRunning (lines left : List ScriptLine) (h : History) : Type 0 where
   pub rests : HoldsAtRests h.builtins h.log
   pub legal : IsLegal h.builtins h.log
   pub small : AllSmall h.log
+  pub plain : IsPlain (standing h).sheet.rows
 
 -- before any entry no variable is wanted
 shows_nothing : ShowsScratch [] []
@@ -35,6 +41,10 @@ shows_nothing (suc v) w = absurd (false≢true w)
 abbrev pub empty : History
 empty = record { builtins = []; log = [] }
 
+no_row : (v : ℕ) (row : VarRow) → nth (nothing_yet []).sheet.rows v ≡ Some row → ⊥
+no_row zero row there = none-some row there
+no_row (suc v) row there = none-some row there
+
 pub running_begins : (lines : List ScriptLine) → IsRunning lines lines empty
 running_begins lines =
     record {
@@ -42,6 +52,7 @@ running_begins lines =
       rests = holds_at_first [] shows_nothing;
       legal = tt;
       small = tt;
+      plain = λ v row there. absurd (no_row v row there);
     }
 
 history_eq : (a b : History) → a.builtins ≡ b.builtins → a.log ≡ b.log → a ≡ b
@@ -82,6 +93,15 @@ module _ (lines left : List ScriptLine) (line : ScriptLine) (old new : History) 
   serial_here =
       subst (λ (r : Reading). SerialFrom [] r nothing (takes.gains.es ++ takes.settles.es) nothing) (sym (read_append (nothing_yet old.builtins) old.log (e ∷ []))) serial
 
+  plain_here : IsPlain (after (standing old) e).sheet.rows
+  plain_here = plain_admit (standing old) line.editor line.event adds.1 so_far.plain
+
+  calm : AllSmall (takes.gains.es ++ takes.settles.es) × ((read_from (after (standing old) e) (takes.gains.es ++ takes.settles.es)).sheet ≡ (after (standing old) e).sheet)
+  calm = calm_serial (after (standing old) e) (takes.gains.es ++ takes.settles.es) plain_here serial
+
+  stays : (standing longer).sheet ≡ (after (standing old) e).sheet
+  stays = ap (λ (r : Reading). r.sheet) (read_append (nothing_yet old.builtins) old.log (e ∷ (takes.gains.es ++ takes.settles.es))) ∙ calm.1
+
   pub running_goes_on : IsRunning lines left new
   running_goes_on =
       record {
@@ -91,7 +111,8 @@ module _ (lines left : List ScriptLine) (line : ScriptLine) (old new : History) 
         legal = closed.legal;
         small = subst (λ (h : History). AllSmall h.log) (sym same)
             (small_append old.log (e ∷ (takes.gains.es ++ takes.settles.es)) so_far.small
-            (small_admit (standing old) line.editor line.event adds.1, small_serial (after (standing old) e) (takes.gains.es ++ takes.settles.es) serial));
+            (small_admit (standing old) line.editor line.event adds.1, calm.0));
+        plain = subst (λ (h : History). IsPlain (standing h).sheet.rows) (sym same) (subst (λ (s : Sheet). IsPlain s.rows) (sym stays) plain_here);
       }
 
 -- the next of the lines that are left
