@@ -83,7 +83,7 @@ abbrev pub call : Function → List Value → Did
 call function vs = or_failed (called function vs) >>= done
 
 module _ (given : Segment) where
-  abbrev pub expr_step : layer.Expr-F Did (List ℕ × Did) (Value → Did) (Sign × Did) → Did
+  abbrev pub expr_step : layer.Expr-F Did (Value → Did) (List ℕ × Did) (Sign × Did) → Did
   expr_step (layer.Int n) = done (V.Int n)
   expr_step (layer.Quoted t) = done (V.Text t)
   expr_step (layer.Bool b) = done (V.Bool b)
@@ -102,27 +102,27 @@ module _ (given : Segment) where
   expr_step (layer.Or xs) = disjunction xs >>= truth
   expr_step (layer.Choose c a b) = c >>= as_truth (codes "?") >>= either a b >>= done
 
-  abbrev pub member_step : layer.Member-F Did (List ℕ × Did) (Value → Did) (Sign × Did) → List ℕ × Did
+  abbrev pub member_step : layer.Member-F Did (Value → Did) (List ℕ × Did) (Sign × Did) → List ℕ × Did
   member_step m = (m.key, m.value)
 
-  abbrev pub path_step : layer.PathStep-F Did (List ℕ × Did) (Value → Did) (Sign × Did) → Value → Did
+  abbrev pub path_step : layer.PathStep-F Did (Value → Did) (List ℕ × Did) (Sign × Did) → Value → Did
   path_step (layer.Field n) = λ v. field_of n v >>= done
   path_step (layer.At e) = λ v. e >>= part_of v >>= done
 
-  abbrev pub operand_step : layer.Operand-F Did (List ℕ × Did) (Value → Did) (Sign × Did) → Sign × Did
+  abbrev pub operand_step : layer.Operand-F Did (Value → Did) (List ℕ × Did) (Sign × Did) → Sign × Did
   operand_step o = (o.sign, o.expr)
 
   abbrev pub eval : Expr → Did
-  eval = fold-Expr Did (List ℕ × Did) (Value → Did) (Sign × Did) expr_step member_step path_step operand_step
+  eval = fold-Expr Did (Value → Did) (List ℕ × Did) (Sign × Did) expr_step path_step member_step operand_step
 
   abbrev pub member : Member → List ℕ × Did
-  member = fold-Member Did (List ℕ × Did) (Value → Did) (Sign × Did) expr_step member_step path_step operand_step
+  member = fold-Member Did (Value → Did) (List ℕ × Did) (Sign × Did) expr_step path_step member_step operand_step
 
   abbrev pub path_part : PathStep → Value → Did
-  path_part = fold-PathStep Did (List ℕ × Did) (Value → Did) (Sign × Did) expr_step member_step path_step operand_step
+  path_part = fold-PathStep Did (Value → Did) (List ℕ × Did) (Sign × Did) expr_step path_step member_step operand_step
 
   abbrev pub operand : Operand → Sign × Did
-  operand = fold-Operand Did (List ℕ × Did) (Value → Did) (Sign × Did) expr_step member_step path_step operand_step
+  operand = fold-Operand Did (Value → Did) (List ℕ × Did) (Sign × Did) expr_step path_step member_step operand_step
 
 -- ---- statements, from what their parts do
 
@@ -189,7 +189,7 @@ module _ (given : Segment) where
   -- the end of the statements gives null
   abbrev pub eval_body : Body → Did
   eval_body (body.Expr e) = eval given e
-  eval_body (body.Block b) = act_block given b >> pure V.Null
+  eval_body (body.Block b) = act_block b >> pure V.Null
 
 -- ---- evaluations
 

@@ -2,4 +2,3 @@ pub mod Locals
 pub mod Run
 pub mod Operate
 pub mod Evaluation
-pub mod Work

@@ -1,5 +1,5 @@
 -- What operators and paths give, from the values of their parts.
-use Rattle.std.specs.Prelude.{ℕ, ◌++◌, Bool, true, false, not, List, nat_lt, slice_get, codes, Option, Some, None, if◌then◌else◌, ℤ, pos, negsuc, ◌+ℤ◌, ◌-ℤ◌, ◌*ℤ◌, neg_ℤ, int_div, int_rem}
+use Rattle.std.specs.Prelude.{ℕ, ◌++◌, Bool, true, false, not, List, nat_eq, nat_lt, slice_get, codes, Option, Some, None, if◌then◌else◌, ℤ, pos, negsuc, ◌+ℤ◌, ◌-ℤ◌, ◌*ℤ◌, neg_ℤ, int_div, int_rem}
 use Rattle.std.specs.declared.cmp.Ordering.{Ordering}
 use Rattle.std.specs.declared.cmp.Ordering.TheVariants as order
 use Rattle.nb_value.specs.declared.value.Value.{Value, out-Value}
@@ -40,8 +40,8 @@ abbrev pub int_of : Sign → ℤ → Run Value
 int_of sign n = if in_range n then pure (V.Int n) else fail Overflow (sign_text sign)
 
 abbrev pub is_zero : ℤ → Bool
-is_zero (pos 0) = true
-is_zero _ = false
+is_zero (pos n) = nat_eq n 0
+is_zero (negsuc n) = false
 
 -- by the quotient, which is cut towards zero: the quotient itself, or the remainder, which has the dividend's sign
 abbrev pub divided : Sign → (ℤ → ℤ → ℤ) → ℤ → ℤ → Run Value
