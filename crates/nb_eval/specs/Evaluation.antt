@@ -30,7 +30,7 @@ use Rattle.nb_eval.specs.declared.given.RunEnd.{RunEnd}
 use Rattle.nb_eval.specs.declared.given.Segment.{Segment}
 use Rattle.nb_eval.specs.declared.stop.Stop.{Stop}
 use Rattle.nb_eval.specs.declared.stop.Stop.TheVariants as stop
-use Rattle.nb_eval.specs.Run.{Run, Out, ◌>>=◌, ◌>>◌, pure, stop, error, fail, tick, done, budget, start_state, read, keep, assign, scoped, as_truth, as_items, within_depth, ask, yielded, cleaned, thrown}
+use Rattle.nb_eval.specs.Run.{Run, Out, ◌>>=◌, ◌>>◌, lift, pure, error, failed, tick, done, budget, start_state, read, keep, assign, scoped, as_truth, items_of, within_depth, ask, yielded, cleaned, thrown}
 use Rattle.nb_eval.specs.Operate.{sum_step, product_step, compared, signed, field_of, part_of}
 
 -- ---- expressions, from what their parts do
@@ -74,13 +74,13 @@ disjunction (x ∷ xs) = x >>= as_truth (codes "||") >>= either (pure true) (dis
 abbrev pub truth : Bool → Did
 truth b = done (V.Bool b)
 
-abbrev pub or_failed : Result Value CellError → Did
-or_failed (Ok v) = pure v
-or_failed (Err e) = stop (stop.Failed e)
+abbrev pub or_failed : Result Value CellError → Result Value Stop
+or_failed (Ok v) = Ok v
+or_failed (Err e) = Err (stop.Failed e)
 
 -- a function's value, with its charge
 abbrev pub call : Function → List Value → Did
-call function vs = or_failed (called function vs) >>= done
+call function vs = lift (or_failed (called function vs)) >>= done
 
 module _ (given : Segment) where
   abbrev pub expr_step : layer.Expr-F Did (Value → Did) (List ℕ × Did) (Sign × Did) → Did
@@ -89,15 +89,15 @@ module _ (given : Segment) where
   expr_step (layer.Bool b) = done (V.Bool b)
   expr_step layer.Null = done V.Null
   expr_step (layer.Name n) = read given n >>= done
-  expr_step (layer.List xs) = parts [] xs >>= (λ vs. within_depth (V.List vs)) >>= done
-  expr_step (layer.Rec ms) = members [] ms >>= (λ fs. within_depth (V.Rec fs)) >>= done
+  expr_step (layer.List xs) = parts [] xs >>= (λ vs. lift (within_depth (V.List vs))) >>= done
+  expr_step (layer.Rec ms) = members [] ms >>= (λ fs. lift (within_depth (V.Rec fs))) >>= done
   expr_step (layer.Call f xs) = parts [] xs >>= call f
   expr_step (layer.Fetch e) = e >>= ask given >>= done
   expr_step (layer.Path e steps) = e >>= (λ v. path_from v steps)
-  expr_step (layer.Unary sign e) = e >>= signed sign >>= done
+  expr_step (layer.Unary sign e) = e >>= (λ v. lift (signed sign v)) >>= done
   expr_step (layer.Product e more) = e >>= (λ v. chain_from product_step v more)
   expr_step (layer.Sum e more) = e >>= (λ v. chain_from sum_step v more)
-  expr_step (layer.Compare sign a b) = a >>= (λ v. b >>= compared sign v) >>= done
+  expr_step (layer.Compare sign a b) = a >>= (λ v. b >>= (λ w. lift (compared sign v w))) >>= done
   expr_step (layer.And xs) = conjunction xs >>= truth
   expr_step (layer.Or xs) = disjunction xs >>= truth
   expr_step (layer.Choose c a b) = c >>= as_truth (codes "?") >>= either a b >>= done
@@ -106,8 +106,8 @@ module _ (given : Segment) where
   member_step m = (m.key, m.value)
 
   abbrev pub path_step : layer.PathStep-F Did (Value → Did) (List ℕ × Did) (Sign × Did) → Value → Did
-  path_step (layer.Field n) = λ v. field_of n v >>= done
-  path_step (layer.At e) = λ v. e >>= part_of v >>= done
+  path_step (layer.Field n) = λ v. lift (field_of n v) >>= done
+  path_step (layer.At e) = λ v. e >>= (λ i. lift (part_of v i)) >>= done
 
   abbrev pub operand_step : layer.Operand-F Did (Value → Did) (List ℕ × Did) (Sign × Did) → Sign × Did
   operand_step o = (o.sign, o.expr)
@@ -143,7 +143,7 @@ choose arms other = ran arms >>= either (pure tt) (or_skip other)
 
 -- at most n turns
 abbrev pub turns : ℕ → Did → Acts → Acts
-turns zero test body = fail OutOfFuel []
+turns zero test body = lift (failed OutOfFuel [])
 turns (suc n) test body = test >>= as_truth (codes "while") >>= either (body >> turns n test body) (pure tt)
 
 -- each whole turn takes some of the budget, so these are enough
@@ -165,10 +165,10 @@ module _ (given : Segment) where
   stmt_step (level.Assign n e) = tick >> eval given e >>= assign n
   stmt_step (level.If arms other) = tick >> choose arms other
   stmt_step (level.While e b) = tick >> loop given (eval given e) b
-  stmt_step (level.For n e b) = tick >> eval given e >>= as_items (codes "for") >>= each n b
+  stmt_step (level.For n e b) = tick >> eval given e >>= (λ v. lift (items_of (codes "for") v)) >>= each n b
   stmt_step (level.Yield e) = tick >> eval given e >>= yielded given
-  stmt_step (level.Return e) = tick >> eval given e >>= (λ v. stop (stop.Done v))
-  stmt_step (level.Throw e) = tick >> eval given e >>= thrown
+  stmt_step (level.Return e) = tick >> eval given e >>= (λ v. lift (Err (stop.Done v)))
+  stmt_step (level.Throw e) = tick >> eval given e >>= (λ v. lift (thrown v))
   stmt_step (level.Cleanup e) = tick >> eval given e >>= cleaned
 
   abbrev pub arm_step : level.Arm-F Acts (Did × Acts) Acts → Did × Acts

@@ -39,11 +39,12 @@ infixl 10 ◌>>◌
 abbrev pub ◌>>◌ : {A B : Type 0} → Run A → Run B → Run B
 p >> q = p >>= (λ _. q)
 
-abbrev pub pure : {A : Type 0} → A → Run A
-pure a s = (Ok a, s)
+-- a step that reads nothing of the state and changes nothing
+abbrev pub lift : {A : Type 0} → Result A Stop → Run A
+lift r s = (r, s)
 
-abbrev pub stop : {A : Type 0} → Stop → Run A
-stop e s = (Err e, s)
+abbrev pub pure : {A : Type 0} → A → Run A
+pure a = lift (Ok a)
 
 -- ---- errors
 
@@ -51,12 +52,12 @@ abbrev pub error : ErrorKind → List ℕ → CellError
 error kind detail = record { kind = kind; detail = detail; via = None }
 
 -- an error whose detail is a sign, a word or a function
-abbrev pub fail : {A : Type 0} → ErrorKind → List ℕ → Run A
-fail kind word = stop (Failed (error kind word))
+abbrev pub failed : {A : Type 0} → ErrorKind → List ℕ → Result A Stop
+failed kind word = Err (Failed (error kind word))
 
 -- an error whose detail is a text of any length: its first 200 characters
-abbrev pub fail_with : {A : Type 0} → ErrorKind → List ℕ → Run A
-fail_with kind text = fail kind (take_chars 200 text)
+abbrev pub failed_with : {A : Type 0} → ErrorKind → List ℕ → Result A Stop
+failed_with kind text = failed kind (take_chars 200 text)
 
 -- ---- fuel
 
@@ -105,7 +106,7 @@ abbrev pub keep : List ℕ → Value → Run (Unit {0})
 keep name v s = (Ok tt, record s { locals = s.locals ++ name_value name v ∷ [] })
 
 abbrev pub assign_at : Option ℕ → List ℕ → Value → Run (Unit {0})
-assign_at None name v = fail_with Unassigned name
+assign_at None name v = lift (failed_with Unassigned name)
 assign_at (Some at) name v = λ s. (Ok tt, record s { locals = slice_set s.locals at (name_value name v) })
 
 abbrev pub assign : List ℕ → Value → Run (Unit {0})
@@ -120,33 +121,36 @@ scoped p s = (p >> cut_to (length s.locals)) s
 
 -- ---- kinds
 
-abbrev pub truth_at : List ℕ → value.Value-F Value → Run Bool
-truth_at word (value.Bool b) = pure b
-truth_at word _ = fail WrongKind word
+abbrev pub truth_in : List ℕ → value.Value-F Value → Result Bool Stop
+truth_in word (value.Bool b) = Ok b
+truth_in word _ = failed WrongKind word
+
+abbrev pub truth_of : List ℕ → Value → Result Bool Stop
+truth_of word v = truth_in word (out-Value v)
 
 abbrev pub as_truth : List ℕ → Value → Run Bool
-as_truth word v = truth_at word (out-Value v)
+as_truth word v = lift (truth_of word v)
 
-abbrev pub items_at : List ℕ → value.Value-F Value → Run (List Value)
-items_at word (value.List vs) = pure vs
-items_at word _ = fail WrongKind word
+abbrev pub items_in : List ℕ → value.Value-F Value → Result (List Value) Stop
+items_in word (value.List vs) = Ok vs
+items_in word _ = failed WrongKind word
 
-abbrev pub as_items : List ℕ → Value → Run (List Value)
-as_items word v = items_at word (out-Value v)
+abbrev pub items_of : List ℕ → Value → Result (List Value) Stop
+items_of word v = items_in word (out-Value v)
 
 -- a list or a record may be 64 levels deep
-abbrev pub within_depth : Value → Run Value
-within_depth v = if nat_lt 64 (depth v) then fail TooLarge (codes "depth") else pure v
+abbrev pub within_depth : Value → Result Value Stop
+within_depth v = if nat_lt 64 (depth v) then failed TooLarge (codes "depth") else Ok v
 
 -- ---- fetches
 
-abbrev pub value_of : Answer → Run Value
-value_of (answer.Value v) = pure v
-value_of (answer.Failure text) = fail_with FetchFailed text
+abbrev pub value_of : Answer → Result Value Stop
+value_of (answer.Value v) = Ok v
+value_of (answer.Failure text) = failed_with FetchFailed text
 
 abbrev pub answered : Option Answer → List ℕ → Run Value
-answered None key = stop (Needs key)
-answered (Some a) key = λ s. value_of a (record s { taken = s.taken + 1 })
+answered None key = lift (Err (Needs key))
+answered (Some a) key = λ s. (value_of a, record s { taken = s.taken + 1 })
 
 -- the next answer that isn't taken
 abbrev pub next_answer : Segment → List ℕ → Run Value
@@ -154,12 +158,12 @@ next_answer given key s = answered (slice_get given.answers s.taken) key (record
 
 abbrev pub ask_text : Segment → List ℕ → Run Value
 ask_text given key s =
-    if nat_lt 1024 (1 + length key) then fail TooLarge (codes "fetch") s
-    else (if nat_lt s.fetches 64 then next_answer given key s else fail TooManyFetches (codes "fetch") s)
+    if nat_lt 1024 (1 + length key) then (failed TooLarge (codes "fetch"), s)
+    else (if nat_lt s.fetches 64 then next_answer given key s else (failed TooManyFetches (codes "fetch"), s))
 
 abbrev pub ask_at : Segment → value.Value-F Value → Run Value
 ask_at given (value.Text key) = ask_text given key
-ask_at given _ = fail WrongKind (codes "fetch")
+ask_at given _ = lift (failed WrongKind (codes "fetch"))
 
 abbrev pub ask : Segment → Value → Run Value
 ask given v = ask_at given (out-Value v)
@@ -175,23 +179,23 @@ go_on given s =
 
 abbrev pub yielded : Segment → Value → Run (Unit {0})
 yielded given v s =
-    if nat_lt 16384 (size v) then fail TooLarge (codes "value") s
+    if nat_lt 16384 (size v) then (failed TooLarge (codes "value"), s)
     else go_on given (record s { yields = s.yields ++ v ∷ [] })
 
 abbrev pub cleaned : Value → Run (Unit {0})
 cleaned v s =
-    if nat_lt 1024 (size v) then fail TooLarge (codes "cleanup") s
+    if nat_lt 1024 (size v) then (failed TooLarge (codes "cleanup"), s)
     else (if nat_lt (length s.cleanups) 16
     then (Ok tt, record s { cleanups = s.cleanups ++ v ∷ [] })
-    else fail TooLarge (codes "cleanup") s)
+    else (failed TooLarge (codes "cleanup"), s))
 
 abbrev pub text_or : value.Value-F Value → List ℕ → List ℕ
 text_or (value.Text t) other = t
 text_or _ other = other
 
 -- a text is thrown as it is, another value as its JSON
-abbrev pub thrown : Value → Run (Unit {0})
-thrown v = fail_with Thrown (text_or (out-Value v) (json_text v))
+abbrev pub thrown : Value → Result (Unit {0}) Stop
+thrown v = failed_with Thrown (text_or (out-Value v) (json_text v))
 
 -- ---- what a call of the evaluator says
 
@@ -199,9 +203,9 @@ thrown v = fail_with Thrown (text_or (out-Value v) (json_text v))
 abbrev pub Meets : {A : Type 0} → Result A Stop → State → Out A → Type 0
 Meets result new out = result ≢ Err Memory → out ≡ (result, new)
 
--- the same of a step that leaves the state as it is
-abbrev pub Gives : {A : Type 0} → Result A Stop → Run A → Type 0
-Gives result p = (s : State) → Meets result s (p s)
+-- the same of what reads nothing of the state and changes nothing
+abbrev pub Gives : {A : Type 0} → Result A Stop → Result A Stop → Type 0
+Gives result r = result ≢ Err Memory → r ≡ result
 
 -- there is room for as many charges as may come
 abbrev pub HasRoom : Segment → State → Type 0

@@ -2,9 +2,14 @@
 #![tactic(auto)]
 
 mod copy;
+mod effects;
 mod given;
+mod locals;
+mod operate;
+mod path;
 mod stack;
 mod state;
+mod steps;
 mod stop;
 
 pub use given::{Ending, RunEnd, Segment};
