@@ -1,54 +1,197 @@
 -- The evaluation of a cell.
-use Rattle.std.specs.Prelude.{ℕ, List, [], ◌∷◌, length, Option, Some, None, Result, Ok, Err}
+use Rattle.std.specs.Prelude.{ℕ, zero, suc, Bool, true, false, List, [], ◌∷◌, ◌++◌, length, nat_lt, codes, Option, Some, None, Result, Ok, Err, if◌then◌else◌}
 use Rattle.nb_value.specs.declared.value.Value.{Value}
 use Rattle.nb_value.specs.declared.value.Value.TheVariants as V
 use Rattle.nb_value.specs.declared.pairs.Field.{Field}
 use Rattle.nb_value.specs.declared.outcome.Answer.{Answer}
+use Rattle.nb_value.specs.declared.outcome.CellError.{CellError}
+use Rattle.nb_value.specs.declared.outcome.ErrorKind.TheVariants.{OutOfFuel, TooLarge}
+use Rattle.nb_value.specs.declared.function.Function.{Function}
+use Rattle.nb_value.specs.Value.{size}
+use Rattle.nb_value.specs.Fields.{put}
 use Rattle.nb_syntax.specs.declared.tree.Sign.{Sign}
 use Rattle.nb_syntax.specs.declared.tree.Expr.{Expr, fold-Expr}
 use Rattle.nb_syntax.specs.declared.tree.Expr.TheOpen as layer
+use Rattle.nb_syntax.specs.declared.tree.Member.{Member, fold-Member}
+use Rattle.nb_syntax.specs.declared.tree.PathStep.{PathStep, fold-PathStep}
 use Rattle.nb_syntax.specs.declared.tree.Operand.{Operand, fold-Operand}
+use Rattle.nb_syntax.specs.declared.tree.Stmt.{Stmt, fold-Stmt}
+use Rattle.nb_syntax.specs.declared.tree.Stmt.TheOpen as level
+use Rattle.nb_syntax.specs.declared.tree.Arm.{Arm, fold-Arm}
+use Rattle.nb_syntax.specs.declared.tree.Block.{Block, fold-Block}
 use Rattle.nb_syntax.specs.declared.tree.Body.{Body}
 use Rattle.nb_syntax.specs.declared.tree.Body.TheVariants as body
 use Rattle.nb_syntax.specs.declared.tree.Cell.{Cell}
+use Rattle.nb_syntax.specs.Generator.{is_generator}
+use Rattle.nb_builtins.specs.Apply.{called}
 use Rattle.nb_eval.specs.declared.given.Ending.{Ending}
-use Rattle.nb_eval.specs.declared.given.Ending.TheVariants.{Paused, Done, Failed}
+use Rattle.nb_eval.specs.declared.given.Ending.TheVariants as ending
 use Rattle.nb_eval.specs.declared.given.RunEnd.{RunEnd}
 use Rattle.nb_eval.specs.declared.given.Segment.{Segment}
 use Rattle.nb_eval.specs.declared.stop.Stop.{Stop}
 use Rattle.nb_eval.specs.declared.stop.Stop.TheVariants as stop
-use Rattle.nb_eval.specs.declared.stop.State.{State}
-use Rattle.nb_eval.specs.Run.{Run, ◌>>=◌, pure, done, read, operated}
+use Rattle.nb_eval.specs.Run.{Run, Out, ◌>>=◌, ◌>>◌, lift, pure, error, failed, tick, done, budget, start_state, read, keep, assign, scoped, as_truth, items_of, within_depth, ask, yielded, cleaned, thrown}
+use Rattle.nb_eval.specs.Operate.{sum_step, product_step, compared, signed, field_of, part_of}
 
--- a first value, and the operators that are applied after it, from left to right
-abbrev pub sum_from : Value → List (Sign × Run Value) → Run Value
-sum_from v [] = pure v
-sum_from v (o ∷ os) = o.1 >>= operated o.0 v >>= (λ u. sum_from u os)
+-- ---- expressions, from what their parts do
 
-module _ (inputs : List (Field Value)) where
-  abbrev pub expr_step : layer.Expr-F (Run Value) (Sign × Run Value) → Run Value
+abbrev pub Did : Type 0
+Did = Run Value
+
+-- the values of parts, from left to right, after those that stand already
+abbrev pub parts : List Value → List Did → Run (List Value)
+parts vs [] = pure vs
+parts vs (x ∷ xs) = x >>= (λ v. parts (vs ++ v ∷ []) xs)
+
+-- the fields of keys with their values, from left to right; of equal keys the last counts
+abbrev pub members : List (Field Value) → List (List ℕ × Did) → Run (List (Field Value))
+members fs [] = pure fs
+members fs (m ∷ ms) = m.1 >>= (λ v. members (put (record { name = m.0; value = v }) fs) ms)
+
+-- a first value, and what is applied after it, from left to right
+abbrev pub chain_from : (Sign → Value → Value → Did) → Value → List (Sign × Did) → Did
+chain_from step v [] = pure v
+chain_from step v (o ∷ os) = o.1 >>= step o.0 v >>= (λ u. chain_from step u os)
+
+abbrev pub path_from : Value → List (Value → Did) → Did
+path_from v [] = pure v
+path_from v (p ∷ ps) = p v >>= (λ u. path_from u ps)
+
+abbrev pub either : {A : Type 0} → A → A → Bool → A
+either a b true = a
+either a b false = b
+
+-- parts up to the first that is false
+abbrev pub conjunction : List Did → Run Bool
+conjunction [] = pure true
+conjunction (x ∷ xs) = x >>= as_truth (codes "&&") >>= either (conjunction xs) (pure false)
+
+-- parts up to the first that is true
+abbrev pub disjunction : List Did → Run Bool
+disjunction [] = pure false
+disjunction (x ∷ xs) = x >>= as_truth (codes "||") >>= either (pure true) (disjunction xs)
+
+abbrev pub truth : Bool → Did
+truth b = done (V.Bool b)
+
+abbrev pub or_failed : Result Value CellError → Result Value Stop
+or_failed (Ok v) = Ok v
+or_failed (Err e) = Err (stop.Failed e)
+
+-- a function's value, with its charge
+abbrev pub call : Function → List Value → Did
+call function vs = lift (or_failed (called function vs)) >>= done
+
+module _ (given : Segment) where
+  abbrev pub expr_step : layer.Expr-F Did (Value → Did) (List ℕ × Did) (Sign × Did) → Did
   expr_step (layer.Int n) = done (V.Int n)
-  expr_step (layer.Name n) = read inputs n >>= done
-  expr_step (layer.Sum e more) = e >>= (λ v. sum_from v more)
+  expr_step (layer.Quoted t) = done (V.Text t)
+  expr_step (layer.Bool b) = done (V.Bool b)
+  expr_step layer.Null = done V.Null
+  expr_step (layer.Name n) = read given n >>= done
+  expr_step (layer.List xs) = parts [] xs >>= (λ vs. lift (within_depth (V.List vs))) >>= done
+  expr_step (layer.Rec ms) = members [] ms >>= (λ fs. lift (within_depth (V.Rec fs))) >>= done
+  expr_step (layer.Call f xs) = parts [] xs >>= call f
+  expr_step (layer.Fetch e) = e >>= ask given >>= done
+  expr_step (layer.Path e steps) = e >>= (λ v. path_from v steps)
+  expr_step (layer.Unary sign e) = e >>= (λ v. lift (signed sign v)) >>= done
+  expr_step (layer.Product e more) = e >>= (λ v. chain_from product_step v more)
+  expr_step (layer.Sum e more) = e >>= (λ v. chain_from sum_step v more)
+  expr_step (layer.Compare sign a b) = a >>= (λ v. b >>= (λ w. lift (compared sign v w))) >>= done
+  expr_step (layer.And xs) = conjunction xs >>= truth
+  expr_step (layer.Or xs) = disjunction xs >>= truth
+  expr_step (layer.Choose c a b) = c >>= as_truth (codes "?") >>= either a b >>= done
 
-  abbrev pub operand_step : layer.Operand-F (Run Value) (Sign × Run Value) → Sign × Run Value
+  abbrev pub member_step : layer.Member-F Did (Value → Did) (List ℕ × Did) (Sign × Did) → List ℕ × Did
+  member_step m = (m.key, m.value)
+
+  abbrev pub path_step : layer.PathStep-F Did (Value → Did) (List ℕ × Did) (Sign × Did) → Value → Did
+  path_step (layer.Field n) = λ v. lift (field_of n v) >>= done
+  path_step (layer.At e) = λ v. e >>= (λ i. lift (part_of v i)) >>= done
+
+  abbrev pub operand_step : layer.Operand-F Did (Value → Did) (List ℕ × Did) (Sign × Did) → Sign × Did
   operand_step o = (o.sign, o.expr)
 
-  abbrev pub eval : Expr → Run Value
-  eval = fold-Expr (Run Value) (Sign × Run Value) expr_step operand_step
+  abbrev pub eval : Expr → Did
+  eval = fold-Expr Did (Value → Did) (List ℕ × Did) (Sign × Did) expr_step path_step member_step operand_step
 
-  abbrev pub operand : Operand → Sign × Run Value
-  operand = fold-Operand (Run Value) (Sign × Run Value) expr_step operand_step
+  abbrev pub member : Member → List ℕ × Did
+  member = fold-Member Did (Value → Did) (List ℕ × Did) (Sign × Did) expr_step path_step member_step operand_step
 
-  abbrev pub eval_body : Body → Run Value
-  eval_body (body.Expr e) = eval e
+  abbrev pub path_part : PathStep → Value → Did
+  path_part = fold-PathStep Did (Value → Did) (List ℕ × Did) (Sign × Did) expr_step path_step member_step operand_step
 
--- the fuel of a pull
-abbrev pub full_fuel : ℕ
-full_fuel = 1000000
+  abbrev pub operand : Operand → Sign × Did
+  operand = fold-Operand Did (Value → Did) (List ℕ × Did) (Sign × Did) expr_step path_step member_step operand_step
 
-abbrev pub start_state : State
-start_state = record { fuel = full_fuel }
+-- ---- statements, from what their parts do
+
+abbrev pub Acts : Type 0
+Acts = Run (Unit {0})
+
+abbrev pub or_skip : Option Acts → Acts
+or_skip None = pure tt
+or_skip (Some b) = b
+
+-- whether one of the arms ran: the first whose test is true
+abbrev pub ran : List (Did × Acts) → Run Bool
+ran [] = pure false
+ran (arm ∷ arms) = arm.0 >>= as_truth (codes "if") >>= either (arm.1 >> pure true) (ran arms)
+
+abbrev pub choose : List (Did × Acts) → Option Acts → Acts
+choose arms other = ran arms >>= either (pure tt) (or_skip other)
+
+-- at most n turns
+abbrev pub turns : ℕ → Did → Acts → Acts
+turns zero test body = lift (failed OutOfFuel [])
+turns (suc n) test body = test >>= as_truth (codes "while") >>= either (body >> turns n test body) (pure tt)
+
+-- each whole turn takes some of the budget, so these are enough
+abbrev pub loop : Segment → Did → Acts → Acts
+loop given test body s = turns (suc (budget given s)) test body s
+
+-- a turn for each value
+abbrev pub each : List ℕ → Acts → List Value → Acts
+each name body [] = pure tt
+each name body (v ∷ vs) = tick >> scoped (keep name v >> body) >> each name body vs
+
+abbrev pub in_order : List Acts → Acts
+in_order [] = pure tt
+in_order (p ∷ ps) = p >> in_order ps
+
+module _ (given : Segment) where
+  abbrev pub stmt_step : level.Stmt-F Acts (Did × Acts) Acts → Acts
+  stmt_step (level.Let n e) = tick >> eval given e >>= keep n
+  stmt_step (level.Assign n e) = tick >> eval given e >>= assign n
+  stmt_step (level.If arms other) = tick >> choose arms other
+  stmt_step (level.While e b) = tick >> loop given (eval given e) b
+  stmt_step (level.For n e b) = tick >> eval given e >>= (λ v. lift (items_of (codes "for") v)) >>= each n b
+  stmt_step (level.Yield e) = tick >> eval given e >>= yielded given
+  stmt_step (level.Return e) = tick >> eval given e >>= (λ v. lift (Err (stop.Done v)))
+  stmt_step (level.Throw e) = tick >> eval given e >>= (λ v. lift (thrown v))
+  stmt_step (level.Cleanup e) = tick >> eval given e >>= cleaned
+
+  abbrev pub arm_step : level.Arm-F Acts (Did × Acts) Acts → Did × Acts
+  arm_step arm = (eval given arm.test, arm.body)
+
+  abbrev pub block_step : level.Block-F Acts (Did × Acts) Acts → Acts
+  block_step b = scoped (in_order b.stmts)
+
+  abbrev pub act : Stmt → Acts
+  act = fold-Stmt Acts (Did × Acts) Acts stmt_step arm_step block_step
+
+  abbrev pub arm : Arm → Did × Acts
+  arm = fold-Arm Acts (Did × Acts) Acts stmt_step arm_step block_step
+
+  abbrev pub act_block : Block → Acts
+  act_block = fold-Block Acts (Did × Acts) Acts stmt_step arm_step block_step
+
+  -- the end of the statements gives null
+  abbrev pub eval_body : Body → Did
+  eval_body (body.Expr e) = eval given e
+  eval_body (body.Block b) = act_block b >> pure V.Null
+
+-- ---- evaluations
 
 -- all that an evaluation gives: the values that it yielded, its cleanups, and how it ended
 pub record Evaluated : Type 0 where
@@ -56,14 +199,37 @@ pub record Evaluated : Type 0 where
   pub cleanups : List Value
   pub ending : Ending
 
-abbrev pub ending_of : Result Value Stop → Ending
-ending_of (Ok v) = Done v
-ending_of (Err (stop.Failed e)) = Failed e
-ending_of (Err stop.Memory) = Paused
+-- a value that a cell which is no generator shows may have this size
+abbrev pub within_size : Bool → Value → Ending
+within_size true v = ending.Done v
+within_size false v = if nat_lt 16384 (size v) then ending.Failed (error TooLarge (codes "value")) else ending.Done v
+
+-- of a generator or not
+abbrev pub ending_of : Bool → Result Value Stop → Ending
+ending_of generates (Ok v) = within_size generates v
+ending_of generates (Err (stop.Done v)) = within_size generates v
+ending_of generates (Err (stop.Failed e)) = ending.Failed e
+ending_of generates (Err (stop.Needs key)) = ending.Needs key
+ending_of generates (Err stop.Paused) = ending.Paused
+ending_of generates (Err stop.Memory) = ending.Paused
+
+-- what comes out, from where evaluation begins
+abbrev pub run : Segment → Out Value
+run s = eval_body s s.cell.body start_state
+
+abbrev pub evaluated : Cell → Out Value → Evaluated
+evaluated cell o = record { yields = o.1.yields; cleanups = o.1.cleanups; ending = ending_of (is_generator cell) o.0 }
+
+abbrev pub segment_of : Cell → List (Field Value) → List Answer → ℕ → Segment
+segment_of cell inputs answers pulls = record { cell = cell; inputs = inputs; answers = answers; pulls = pulls }
 
 -- the evaluation of a cell over the values of its free names, the answers to its fetches and the number of pulls
 unfoldable pub evaluation : Cell → List (Field Value) → List Answer → ℕ → Evaluated
-evaluation cell inputs answers pulls = record { yields = []; cleanups = []; ending = ending_of (eval_body inputs cell.body start_state).0 }
+evaluation cell inputs answers pulls = evaluated cell (run (segment_of cell inputs answers pulls))
+
+-- the number of charges that it makes, with one that fails
+unfoldable pub charges : Segment → ℕ
+charges s = (run s).1.charges
 
 abbrev pub last_of : List Value → Option Value
 last_of [] = None

@@ -1,19 +1,23 @@
 -- The steps of which evaluation is made: each hands on the state, or stops.
-use Rattle.std.specs.Prelude.{◌≡◌, ◌≢◌, ℕ, ◌+◌, ◌-◌, Bool, List, [], ◌++◌, nat_lt, codes, Option, Some, None, Result, Ok, Err, if◌then◌else◌, ℤ, pos, negsuc, ◌+ℤ◌, ◌-ℤ◌}
+use Rattle.std.specs.Prelude.{◌≡◌, ◌≢◌, ◌<◌, ◌≤◌, ℕ, ◌+◌, ◌-◌, ◌*◌, Bool, List, [], ◌∷◌, ◌++◌, length, take, nat_lt, slice_get, slice_set, codes, Option, Some, None, Result, Ok, Err, if◌then◌else◌}
+use Rattle.std.specs.Fmt.{take_chars}
 use Rattle.nb_value.specs.declared.value.Value.{Value, out-Value}
 use Rattle.nb_value.specs.declared.value.Value.TheOpen as value
 use Rattle.nb_value.specs.declared.value.Value.TheVariants as V
 use Rattle.nb_value.specs.declared.pairs.Field.{Field}
+use Rattle.nb_value.specs.declared.outcome.Answer.{Answer}
+use Rattle.nb_value.specs.declared.outcome.Answer.TheVariants as answer
 use Rattle.nb_value.specs.declared.outcome.CellError.{CellError}
 use Rattle.nb_value.specs.declared.outcome.ErrorKind.{ErrorKind}
-use Rattle.nb_value.specs.declared.outcome.ErrorKind.TheVariants.{WrongKind, Overflow, OutOfFuel}
-use Rattle.nb_value.specs.Value.{size}
+use Rattle.nb_value.specs.declared.outcome.ErrorKind.TheVariants.{WrongKind, Thrown, FetchFailed, OutOfFuel, TooLarge, TooManyFetches, Unassigned}
+use Rattle.nb_value.specs.Value.{size, depth}
 use Rattle.nb_value.specs.Fields.{value_at}
-use Rattle.nb_syntax.specs.declared.tree.Sign.{Sign}
-use Rattle.nb_syntax.specs.declared.tree.Sign.TheVariants.{Plus, Minus}
-use Rattle.nb_eval.specs.declared.stop.State.{State}
+use Rattle.nb_value.specs.Json.{json_text}
+use Rattle.nb_eval.specs.declared.given.Segment.{Segment}
+use Rattle.nb_eval.specs.declared.state.State.{State}
 use Rattle.nb_eval.specs.declared.stop.Stop.{Stop}
-use Rattle.nb_eval.specs.declared.stop.Stop.TheVariants.{Memory, Failed}
+use Rattle.nb_eval.specs.declared.stop.Stop.TheVariants.{Memory, Paused, Needs, Failed}
+use Rattle.nb_eval.specs.Locals.{name_value, place, local_of}
 
 abbrev pub Out : Type 0 → Type 0
 Out A = Result A Stop × State
@@ -30,74 +34,191 @@ infixl 10 ◌>>=◌
 abbrev pub ◌>>=◌ : {A B : Type 0} → Run A → (A → Run B) → Run B
 p >>= f = λ s. after (p s).0 (p s).1 f
 
-abbrev pub pure : {A : Type 0} → A → Run A
-pure a s = (Ok a, s)
+infixl 10 ◌>>◌
+-- one step and then another
+abbrev pub ◌>>◌ : {A B : Type 0} → Run A → Run B → Run B
+p >> q = p >>= (λ _. q)
 
-abbrev pub stop : {A : Type 0} → Stop → Run A
-stop e s = (Err e, s)
+-- a step that reads nothing of the state and changes nothing
+abbrev pub lift : {A : Type 0} → Result A Stop → Run A
+lift r s = (r, s)
+
+abbrev pub pure : {A : Type 0} → A → Run A
+pure a = lift (Ok a)
+
+-- ---- errors
 
 abbrev pub error : ErrorKind → List ℕ → CellError
 error kind detail = record { kind = kind; detail = detail; via = None }
 
-abbrev pub fail : {A : Type 0} → ErrorKind → List ℕ → Run A
-fail kind detail = stop (Failed (error kind detail))
+-- an error whose detail is a sign, a word or a function
+abbrev pub failed : {A : Type 0} → ErrorKind → List ℕ → Result A Stop
+failed kind word = Err (Failed (error kind word))
+
+-- an error whose detail is a text of any length: its first 200 characters
+abbrev pub failed_with : {A : Type 0} → ErrorKind → List ℕ → Result A Stop
+failed_with kind text = failed kind (take_chars 200 text)
+
+-- ---- fuel
+
+-- the fuel of a pull
+abbrev pub full_fuel : ℕ
+full_fuel = 1000000
 
 -- a charge of n takes n from the fuel, and fails where that is more than is left
 abbrev pub charge : ℕ → Run (Unit {0})
-charge n s = if nat_lt s.fuel n then (Err (Failed (error OutOfFuel [])), s) else (Ok tt, record s { fuel = s.fuel - n })
+charge n s =
+    if nat_lt s.fuel n
+    then (Err (Failed (error OutOfFuel [])), record s { charges = s.charges + 1 })
+    else (Ok tt, record s { fuel = s.fuel - n; charges = s.charges + 1 })
+
+-- the charge of a statement, and of a turn of a `for`
+abbrev pub tick : Run (Unit {0})
+tick = charge 1
 
 -- a node is charged 1 and the size of its value, after its parts and its errors
 abbrev pub done : Value → Run Value
-done v = charge (1 + size v) >>= (λ u. pure v)
+done v = charge (1 + size v) >> pure v
+
+-- each charge takes some of this
+abbrev pub budget : Segment → State → ℕ
+budget given s = s.fuel + (given.pulls - length s.yields) * full_fuel
+
+-- no locals, no answers taken, no yields and no cleanups
+abbrev pub start_state : State
+start_state = record { fuel = full_fuel; charges = 0; locals = []; taken = 0; fetches = 0; yields = []; cleanups = [] }
 
 -- ---- names
 
-abbrev pub or_null : Option Value → Value
-or_null None = V.Null
-or_null (Some v) = v
+abbrev pub value_or : Value → Option Value → Value
+value_or v None = v
+value_or v (Some w) = w
 
--- the value of an input; a segment has one for each free name
-abbrev pub read : List (Field Value) → List ℕ → Run Value
-read inputs name = pure (or_null (value_at name inputs))
+abbrev pub local_or : Option (Field Value) → Value → Value
+local_or None v = v
+local_or (Some l) v = l.value
 
--- ---- operators
+-- the innermost local, or else the input; a segment has one for each free name
+abbrev pub read : Segment → List ℕ → Run Value
+read given name s = (Ok (local_or (local_of name s.locals) (value_or V.Null (value_at name given.inputs))), s)
 
-abbrev pub in_range : ℤ → Bool
-in_range (pos n) = nat_lt n 0x8000_0000_0000_0000
-in_range (negsuc n) = nat_lt n 0x8000_0000_0000_0000
+abbrev pub keep : List ℕ → Value → Run (Unit {0})
+keep name v s = (Ok tt, record s { locals = s.locals ++ name_value name v ∷ [] })
 
-abbrev pub int_of : List ℕ → ℤ → Run Value
-int_of sign n = if in_range n then pure (V.Int n) else fail Overflow sign
+abbrev pub assign_at : Option ℕ → List ℕ → Value → Run (Unit {0})
+assign_at None name v = lift (failed_with Unassigned name)
+assign_at (Some at) name v = λ s. (Ok tt, record s { locals = slice_set s.locals at (name_value name v) })
 
--- a sum of whole numbers; texts and lists are joined
-abbrev pub add_layers : value.Value-F Value → value.Value-F Value → Run Value
-add_layers (value.Int a) (value.Int b) = int_of (codes "+") (a +ℤ b)
-add_layers (value.Text a) (value.Text b) = pure (V.Text (a ++ b))
-add_layers (value.List a) (value.List b) = pure (V.List (a ++ b))
-add_layers _ _ = fail WrongKind (codes "+")
+abbrev pub assign : List ℕ → Value → Run (Unit {0})
+assign name v s = assign_at (place name s.locals) name v s
 
-abbrev pub add : Value → Value → Run Value
-add a b = add_layers (out-Value a) (out-Value b)
+abbrev pub cut_to : ℕ → Run (Unit {0})
+cut_to len s = (Ok tt, record s { locals = take len s.locals })
 
-abbrev pub subtract_layers : value.Value-F Value → value.Value-F Value → Run Value
-subtract_layers (value.Int a) (value.Int b) = int_of (codes "-") (a -ℤ b)
-subtract_layers _ _ = fail WrongKind (codes "-")
+-- what is let inside ends with it
+abbrev pub scoped : Run (Unit {0}) → Run (Unit {0})
+scoped p s = (p >> cut_to (length s.locals)) s
 
-abbrev pub subtract : Value → Value → Run Value
-subtract a b = subtract_layers (out-Value a) (out-Value b)
+-- ---- kinds
 
-abbrev pub applied : Sign → Value → Value → Run Value
-applied Plus a b = add a b
-applied Minus a b = subtract a b
+abbrev pub truth_in : List ℕ → value.Value-F Value → Result Bool Stop
+truth_in word (value.Bool b) = Ok b
+truth_in word _ = failed WrongKind word
 
--- an applied operator, with its charge
-abbrev pub operated : Sign → Value → Value → Run Value
-operated sign a b = applied sign a b >>= done
+abbrev pub truth_of : List ℕ → Value → Result Bool Stop
+truth_of word v = truth_in word (out-Value v)
 
--- what a function of the evaluator answers, where memory didn't run out
+abbrev pub as_truth : List ℕ → Value → Run Bool
+as_truth word v = lift (truth_of word v)
+
+abbrev pub items_in : List ℕ → value.Value-F Value → Result (List Value) Stop
+items_in word (value.List vs) = Ok vs
+items_in word _ = failed WrongKind word
+
+abbrev pub items_of : List ℕ → Value → Result (List Value) Stop
+items_of word v = items_in word (out-Value v)
+
+-- a list or a record may be 64 levels deep
+abbrev pub within_depth : Value → Result Value Stop
+within_depth v = if nat_lt 64 (depth v) then failed TooLarge (codes "depth") else Ok v
+
+-- ---- fetches
+
+abbrev pub value_of : Answer → Result Value Stop
+value_of (answer.Value v) = Ok v
+value_of (answer.Failure text) = failed_with FetchFailed text
+
+abbrev pub answered : Option Answer → List ℕ → Run Value
+answered None key = lift (Err (Needs key))
+answered (Some a) key = λ s. (value_of a, record s { taken = s.taken + 1 })
+
+-- the next answer that isn't taken
+abbrev pub next_answer : Segment → List ℕ → Run Value
+next_answer given key s = answered (slice_get given.answers s.taken) key (record s { fetches = s.fetches + 1 })
+
+abbrev pub ask_text : Segment → List ℕ → Run Value
+ask_text given key s =
+    if nat_lt 1024 (1 + length key) then (failed TooLarge (codes "fetch"), s)
+    else (if nat_lt s.fetches 64 then next_answer given key s else (failed TooManyFetches (codes "fetch"), s))
+
+abbrev pub ask_at : Segment → value.Value-F Value → Run Value
+ask_at given (value.Text key) = ask_text given key
+ask_at given _ = lift (failed WrongKind (codes "fetch"))
+
+abbrev pub ask : Segment → Value → Run Value
+ask given v = ask_at given (out-Value v)
+
+-- ---- yields, cleanups and throws
+
+-- the next pull has full fuel and no fetches yet
+abbrev pub go_on : Segment → Run (Unit {0})
+go_on given s =
+    if nat_lt (length s.yields) given.pulls
+    then (Ok tt, record s { fuel = full_fuel; fetches = 0 })
+    else (Err Paused, s)
+
+abbrev pub yielded : Segment → Value → Run (Unit {0})
+yielded given v s =
+    if nat_lt 16384 (size v) then (failed TooLarge (codes "value"), s)
+    else go_on given (record s { yields = s.yields ++ v ∷ [] })
+
+abbrev pub cleaned : Value → Run (Unit {0})
+cleaned v s =
+    if nat_lt 1024 (size v) then (failed TooLarge (codes "cleanup"), s)
+    else (if nat_lt (length s.cleanups) 16
+    then (Ok tt, record s { cleanups = s.cleanups ++ v ∷ [] })
+    else (failed TooLarge (codes "cleanup"), s))
+
+abbrev pub text_or : value.Value-F Value → List ℕ → List ℕ
+text_or (value.Text t) other = t
+text_or _ other = other
+
+-- a text is thrown as it is, another value as its JSON
+abbrev pub thrown : Value → Result (Unit {0}) Stop
+thrown v = failed_with Thrown (text_or (out-Value v) (json_text v))
+
+-- ---- what a call of the evaluator says
+
+-- what came out is what the definition gives, unless memory ran out
 abbrev pub Meets : {A : Type 0} → Result A Stop → State → Out A → Type 0
 Meets result new out = result ≢ Err Memory → out ≡ (result, new)
 
--- the same of a step that leaves the state as it is
-abbrev pub Gives : {A : Type 0} → Result A Stop → Run A → Type 0
-Gives result p = (s : State) → Meets result s (p s)
+-- the same of what reads nothing of the state and changes nothing
+abbrev pub Gives : {A : Type 0} → Result A Stop → Result A Stop → Type 0
+Gives result r = result ≢ Err Memory → r ≡ result
+
+-- there is room for as many charges as may come
+abbrev pub HasRoom : Segment → State → Type 0
+HasRoom given s = s.charges + budget given s < 0x8000_0000_0000_0000
+
+-- the budget pays for each charge
+abbrev pub Spends : Segment → State → State → Type 0
+Spends given old new = (old.charges < new.charges) × (new.charges + budget given new ≤ old.charges + budget given old)
+
+-- the same of what may make no charge
+abbrev pub SpendsAtMost : Segment → State → State → Type 0
+SpendsAtMost given old new = (old.charges ≤ new.charges) × (new.charges + budget given new ≤ old.charges + budget given old)
+
+-- nothing is charged or yielded
+abbrev pub Quiet : State → State → Type 0
+Quiet old new = (new.charges ≡ old.charges) × (new.fuel ≡ old.fuel) × (new.yields ≡ old.yields)

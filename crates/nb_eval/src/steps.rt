@@ -1,18 +1,21 @@
-//! The steps of which evaluation is made.
+//! Errors and charges.
 
-ghost use Rattle.std.specs.Prelude.{◌≡◌, ◌≢◌, ◌+◌, IfOk};
+ghost use Rattle.std.specs.Prelude.{◌≡◌, ◌≢◌, ◌+◌, ◌<◌, ◌^◌, OnOk};
+ghost use Rattle.std.specs.Fmt.{take_chars};
 ghost use Rattle.nb_value.specs.Value.{size};
-ghost use Rattle.nb_value.specs.Fields.{value_at};
-ghost use Rattle.nb_eval.specs.Run.{Meets, error, charge, done, or_null};
+ghost use Rattle.nb_eval.specs.Run.{Meets, Gives, HasRoom, Spends, error, charge, tick, done, truth_of, items_of, within_depth};
 
-use crate::stop::{State, Stop};
-use nb_value::{CellError, ErrorKind, Pairs, Text, Value};
-use std::alloc::{AllocError, Global};
+use crate::given::Segment;
+use crate::state::State;
+use crate::stop::Stop;
+use nb_value::{CellError, ErrorKind, Items, Text, Value};
+use std::alloc::Global;
 
-pub fn failure(alloc: Global, kind: ErrorKind, detail: &str) -> Stop
-    ensures { result ≢ Stop.Memory → result ≡ Stop.Failed (error kind detail.now) }
+/// An error whose detail is a word.
+pub fn failure(alloc: Global, kind: ErrorKind, word: &str) -> Stop
+    ensures { result ≢ Stop.Memory → result ≡ Stop.Failed (error kind word.now) }
 {
-    match Text::from_str(alloc, detail) {
+    match Text::from_str(alloc, word) {
         Ok(detail) => Stop::Failed(CellError {
             kind,
             detail,
@@ -22,38 +25,108 @@ pub fn failure(alloc: Global, kind: ErrorKind, detail: &str) -> Stop
     }
 }
 
-/// A charge of 1 and the size of a value. It takes no memory.
-pub fn charge_node(alloc: Global, state: &mut State, value: &Value) -> Result<(), Stop>
-    ensures gives { Meets result state.new (charge (1 + size value.now) state.old) }
+/// An error whose detail is the front of a text: its first 200 characters.
+pub fn failure_with(alloc: Global, kind: ErrorKind, text: &Text) -> Stop
+    ensures { result ≢ Stop.Memory → result ≡ Stop.Failed (error kind (take_chars 200 text.now)) }
+{
+    match text.cut(alloc) {
+        Ok(detail) => Stop::Failed(CellError {
+            kind,
+            detail,
+            via: None,
+        }),
+        Err(_) => Stop::Memory,
+    }
+}
+
+// A charge of one more than `more`.
+fn charge_one_and(alloc: Global, state: &mut State, more: u64) -> Result<(), Stop>
+    requires { state.old.charges + 1 < 2 ^ 64 }
+    ensures gives { Meets result state.new (charge (1 + more) state.old) }
     ensures memory { result ≢ Err Stop.Memory }
 {
-    let size = value.size();
-    if size >= state.fuel {
+    state.charges += 1;
+    if more >= state.fuel {
         return Err(Stop::Failed(CellError {
             kind: ErrorKind::OutOfFuel,
             detail: Text::from_string(String::new(alloc)),
             via: None,
         }));
     }
-    state.fuel -= size + 1;
+    state.fuel -= more + 1;
     Ok(())
 }
 
-/// The value of a node, with its charge. It takes no memory.
-pub fn charged(alloc: Global, state: &mut State, value: Value) -> Result<Value, Stop>
+/// A charge of 1 and the size of a value. It takes no memory, and time linear in the size.
+pub fn charge_node(
+    alloc: Global,
+    given: &Segment,
+    state: &mut State,
+    value: &Value,
+) -> Result<(), Stop>
+    requires { HasRoom given.now state.old }
+    ensures gives { Meets result state.new (charge (1 + size value.now) state.old) }
+    ensures memory { result ≢ Err Stop.Memory }
+    ensures spends { OnOk result (Spends given.now state.old state.new) }
+{
+    charge_one_and(alloc, state, value.size())
+}
+
+/// The charge of a statement. It takes no memory.
+pub fn charge_statement(alloc: Global, given: &Segment, state: &mut State) -> Result<(), Stop>
+    requires { HasRoom given.now state.old }
+    ensures gives { Meets result state.new (tick state.old) }
+    ensures memory { result ≢ Err Stop.Memory }
+    ensures spends { OnOk result (Spends given.now state.old state.new) }
+{
+    charge_one_and(alloc, state, 0)
+}
+
+/// The value of a node, with its charge. It takes no memory, and time linear in the size.
+pub fn charged(
+    alloc: Global,
+    given: &Segment,
+    state: &mut State,
+    value: Value,
+) -> Result<Value, Stop>
+    requires { HasRoom given.now state.old }
     ensures gives { Meets result state.new (done value state.old) }
     ensures memory { result ≢ Err Stop.Memory }
+    ensures spends { OnOk result (Spends given.now state.old state.new) }
 {
-    charge_node(alloc, state, &value)?;
+    charge_node(alloc, given, state, &value)?;
     Ok(value)
 }
 
-/// The value of an input.
-pub fn read(alloc: Global, inputs: &Pairs<Value>, name: &Text) -> Result<Value, AllocError>
-    ensures { IfOk result (λ value. value ≡ or_null (value_at name.now inputs.now)) }
+/// A truth value, or the error that it is none.
+pub fn as_truth(alloc: Global, value: &Value, word: &str) -> Result<bool, Stop>
+    ensures { Gives result (truth_of word.now value.now) }
 {
-    match inputs.get(name.as_str()) {
-        Some(value) => value.copy(alloc),
-        None => Ok(Value::Null),
+    match value {
+        Value::Bool(b) => Ok(*b),
+        _ => Err(failure(alloc, ErrorKind::WrongKind, word)),
     }
+}
+
+/// The items of a list, which are moved out of it, or the error that the value is none.
+pub fn as_items(alloc: Global, value: Value, word: &str) -> Result<Items<Value>, Stop>
+    ensures { Gives result (items_of word.now value) }
+{
+    match value {
+        Value::List(items) => Ok(items),
+        _ => Err(failure(alloc, ErrorKind::WrongKind, word)),
+    }
+}
+
+/// The deepest that a list or a record of a cell may be.
+const MAX_LEVELS: u32 = 64;
+
+/// A list or a record, or the error that it is too deep. It takes time linear in the size.
+pub fn within_depth(alloc: Global, value: Value) -> Result<Value, Stop>
+    ensures { Gives result (within_depth value) }
+{
+    if value.depth() > MAX_LEVELS {
+        return Err(failure(alloc, ErrorKind::TooLarge, "depth"));
+    }
+    Ok(value)
 }

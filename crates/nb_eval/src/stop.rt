@@ -1,18 +1,17 @@
-use nb_value::CellError;
+use nb_value::{CellError, Text, Value};
 use std::alloc::AllocError;
-
-/// What evaluation hands on from step to step.
-#[derive(Debug, Drop)]
-pub struct State {
-    /// What is left of the pull's fuel.
-    pub fuel: u64,
-}
 
 /// What ends an evaluation before its end.
 #[derive(Debug, Drop)]
 pub enum Stop {
     /// No evaluation ends so: memory ran out.
     Memory,
+    /// As many values were yielded as pulls were made.
+    Paused,
+    /// No answer was left for a fetch of this key.
+    Needs(Text),
+    /// This value was returned.
+    Done(Value),
     Failed(CellError),
 }
 

@@ -1,0 +1,12 @@
+pub mod Calls
+pub mod Lengths
+pub mod Sums
+pub mod Extremes
+pub mod Ranges
+pub mod Slices
+pub mod Orders
+pub mod Records
+pub mod Numerals
+pub mod Texts
+pub mod Parts
+pub mod Apply

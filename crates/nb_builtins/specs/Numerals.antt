@@ -1,0 +1,36 @@
+-- `int`: the number that a text spells.
+use Rattle.std.specs.Prelude.{ℕ, Bool, false, nat_le, ◌&&◌, ◌==◌, ℤ, pos, neg_ℤ, List, [], ◌∷◌, Option, Some, None, option_map, Ok, if◌then◌else◌}
+use Rattle.std.specs.Str.{all_ascii_digits}
+use Rattle.std.specs.Str.Parse.{digits_value}
+use Rattle.nb_value.specs.declared.value.Value.{Value, out-Value}
+use Rattle.nb_value.specs.declared.value.Value.TheOpen.{Value-F}
+use Rattle.nb_value.specs.declared.value.Value.TheVariants as V
+use Rattle.nb_value.specs.declared.function.Function.TheVariants.{Int}
+use Rattle.nb_builtins.specs.Calls.{Called, wrong_kind, out_of_range}
+use Rattle.nb_builtins.specs.Sums.{in_range}
+
+-- a digit 1 to 9 and digits after it
+abbrev pub is_positive_numeral : List ℕ → Bool
+is_positive_numeral [] = false
+is_positive_numeral (d ∷ ds) = nat_le 49 d && nat_le d 57 && all_ascii_digits ds
+
+-- the number of such digits
+abbrev pub positive : List ℕ → Option ℕ
+positive ds = if is_positive_numeral ds then Some (digits_value 10 ds) else None
+
+-- `0`, or such digits behind a `-` or none
+abbrev pub spelled : List ℕ → Option ℤ
+spelled [] = None
+spelled (c ∷ []) = if c == 48 then Some (pos 0) else option_map pos (positive (c ∷ []))
+spelled (c ∷ d ∷ ds) = if c == 45 then option_map (λ n. neg_ℤ (pos n)) (positive (d ∷ ds)) else option_map pos (positive (c ∷ d ∷ ds))
+
+abbrev pub int_spelled : Option ℤ → Called Value
+int_spelled None = out_of_range Int
+int_spelled (Some n) = if in_range n then Ok (V.Int n) else out_of_range Int
+
+abbrev pub int_in_text : Value-F Value → Called Value
+int_in_text (Value-F.Text t) = int_spelled (spelled t)
+int_in_text _ = wrong_kind Int
+
+abbrev pub int_of_text : Value → Called Value
+int_of_text v = int_in_text (out-Value v)

@@ -1,0 +1,6 @@
+//! The functions that cells may call.
+#![tactic(auto)]
+
+mod fail;
+
+pub use fail::ApplyFail;

@@ -1,7 +1,0 @@
-use Rattle.std.proofs.Common.{rules}
-use Rattle.nb_eval.specs.Evaluation.{evaluation}
-use Rattle.nb_eval.proofs.eval.run.Goals as goal
-
-pub returns : goal.returns
-unfolding evaluation
-returns c = search rules
