@@ -7,22 +7,26 @@ use crate::machine::{Core, settle};
 use crate::placed::{Placed, Shown};
 use nb_eval::WorkDone;
 use nb_log::{Edit, Event};
-use nb_syntax::{Body, Cell, Expr};
+use nb_syntax::{Body, Cell, Expr, is_plain};
 use nb_value::{ErrorKind, Pairs, Text};
 use std::alloc::{AllocError, Global};
 use std::test::Fail;
 
 // The event of an added cell `x = n`.
-fn x_is(alloc: Global, n: i64) -> Result<Event, AllocError>
+fn x_is(alloc: Global, n: i64) -> Result<Event, Fail>
     ensures { IfOk result (λ event. IsAddedCell event) }
 {
     let name = Text::from_str(alloc, "x")?;
+    let cell = Cell {
+        name: Some(name),
+        body: Body::Expr(Expr::Int(n)),
+    };
+    if !is_plain(&cell) {
+        return Err("not plain".into());
+    }
     Ok(Event::Edit(Edit::AddCell {
         module: 0,
-        cell: Cell {
-            name: Some(name),
-            body: Body::Expr(Expr::Int(n)),
-        },
+        cell,
         observed: true,
     }))
 }

@@ -24,22 +24,23 @@ use Rattle.nb_value.specs.declared.value.Value.TheFolds.{fold-roll-Value}
 use Rattle.nb_eval.specs.Evaluation.{Evaluated, evaluation}
 use Rattle.nb_eval.specs.declared.given.Ending.TheVariants.{Done}
 
-pub fold_int : {A B : Type 0} (f : layer.Expr-F A B → A) (g : layer.Operand-F A B → B) (n : ℤ) → fold-Expr A B f g (expr.Int n) ≡ f (layer.Int n)
-fold_int {A} {B} f g n = ap (fold-Expr A B f g) (sym (rolls-Int n)) ∙ fold-roll-Expr A B f g (layer.Int n)
+module _ {A B C D : Type 0} (f : layer.Expr-F A B C D → A) (g : layer.PathStep-F A B C D → B) (h : layer.Member-F A B C D → C) (k : layer.Operand-F A B C D → D) where
+  pub fold_int : (n : ℤ) → fold-Expr A B C D f g h k (expr.Int n) ≡ f (layer.Int n)
+  fold_int n = ap (fold-Expr A B C D f g h k) (sym (rolls-Int n)) ∙ fold-roll-Expr A B C D f g h k (layer.Int n)
 
-pub fold_name : {A B : Type 0} (f : layer.Expr-F A B → A) (g : layer.Operand-F A B → B) (n : List ℕ) → fold-Expr A B f g (expr.Name n) ≡ f (layer.Name n)
-fold_name {A} {B} f g n = ap (fold-Expr A B f g) (sym (rolls-Name n)) ∙ fold-roll-Expr A B f g (layer.Name n)
+  pub fold_name : (n : List ℕ) → fold-Expr A B C D f g h k (expr.Name n) ≡ f (layer.Name n)
+  fold_name n = ap (fold-Expr A B C D f g h k) (sym (rolls-Name n)) ∙ fold-roll-Expr A B C D f g h k (layer.Name n)
 
 -- `a + b`
 abbrev pub plus : Expr → Expr → Expr
 plus a b = expr.Sum a (record { sign = Plus; expr = b } ∷ [])
 
-pub fold_plus : {A B : Type 0} (f : layer.Expr-F A B → A) (g : layer.Operand-F A B → B) (a b : Expr)
-    → fold-Expr A B f g (plus a b) ≡ f (layer.Sum (fold-Expr A B f g a) (g (record { sign = Plus; expr = fold-Expr A B f g b }) ∷ []))
-fold_plus {A} {B} f g a b =
-    ap (fold-Expr A B f g) (sym (rolls-Sum a (record { sign = Plus; expr = b } ∷ [])))
-    ∙ fold-roll-Expr A B f g (layer.Sum a (record { sign = Plus; expr = b } ∷ []))
-    ∙ ap (λ (x : B). f (layer.Sum (fold-Expr A B f g a) (x ∷ []))) (fold-roll-Operand A B f g (record { sign = Plus; expr = b }))
+module _ {A B C D : Type 0} (f : layer.Expr-F A B C D → A) (g : layer.PathStep-F A B C D → B) (h : layer.Member-F A B C D → C) (k : layer.Operand-F A B C D → D) where
+  pub fold_plus : (a b : Expr) → fold-Expr A B C D f g h k (plus a b) ≡ f (layer.Sum (fold-Expr A B C D f g h k a) (k (record { sign = Plus; expr = fold-Expr A B C D f g h k b }) ∷ []))
+  fold_plus a b =
+      ap (fold-Expr A B C D f g h k) (sym (rolls-Sum a (record { sign = Plus; expr = b } ∷ [])))
+      ∙ fold-roll-Expr A B C D f g h k (layer.Sum a (record { sign = Plus; expr = b } ∷ []))
+      ∙ ap (λ (x : D). f (layer.Sum (fold-Expr A B C D f g h k a) (x ∷ []))) (fold-roll-Operand A B C D f g h k (record { sign = Plus; expr = b }))
 
 pub size_int : (n : ℤ) → size (V.Int n) ≡ 1
 size_int n = ap size (sym (values.rolls-Int n)) ∙ fold-roll-Value ℕ size_step (Value-F.Int n)

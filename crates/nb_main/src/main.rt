@@ -55,4 +55,6 @@ fn words_of<R: Env + AllocGlobal>(rt: &R) -> Result<Words, AllocError> {
 }
 
 #[cfg(test)]
+mod cell_tests;
+#[cfg(test)]
 mod tests;
