@@ -4,7 +4,10 @@
 mod copy;
 mod copy_stmt;
 mod generator;
+mod level;
 mod plain;
+mod print_expr;
+mod quoted;
 mod sums;
 mod tree;
 
