@@ -7,11 +7,14 @@ mod generator;
 mod level;
 mod plain;
 mod print_expr;
+mod print_stmt;
+mod printing;
 mod quoted;
 mod sums;
 mod tree;
 
 pub use generator::is_generator;
 pub use plain::is_plain;
+pub use printing::print;
 pub use sums::is_sum;
 pub use tree::{Arm, Block, Body, Cell, Expr, Member, Operand, PathStep, Sign, Stmt};
