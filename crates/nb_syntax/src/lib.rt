@@ -4,6 +4,7 @@
 mod copy;
 mod copy_stmt;
 mod generator;
+mod length_expr;
 mod level;
 mod plain;
 mod print_expr;

@@ -1,12 +1,9 @@
 -- What is written, with what is left, is the whole.
-use Rattle.std.proofs.Common.{◌≡◌, ◌++◌, map, drop, ℕ, List}
-use Rattle.std.specs.Prelude.{string_bytes, codes, ◌==◌, if◌then◌else◌}
-use Rattle.nb_syntax.specs.Print.{bare, placed, operand, operands_text, each_after, separated, member_text, path_step_text, steps_text}
+use Rattle.std.proofs.Common.{◌≡◌, ◌++◌, map, drop}
+use Rattle.std.specs.Prelude.{string_bytes, codes}
+use Rattle.nb_syntax.specs.Print.{bare, placed, operand, operands_text, separated, member_text, path_step_text, steps_text}
+use Rattle.nb_syntax.proofs.Places.{from_place}
 use Rattle.nb_syntax.proofs.print_expr.+print.Given as goal
-
--- the texts from this place of a row on
-abbrev pub from_place : ℕ → List ℕ → List (List ℕ) → List ℕ
-from_place place separator ts = if place == 0 then separated separator ts else each_after separator ts
 
 abbrev pub invariant-push_parts-loop-place : goal.invariant-push_parts-loop-place
 invariant-push_parts-loop-place l =

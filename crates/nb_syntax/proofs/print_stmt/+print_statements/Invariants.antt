@@ -1,12 +1,9 @@
 -- What is written, with what is left, is the whole.
-use Rattle.std.proofs.Common.{◌≡◌, ◌++◌, map, drop, ℕ, List}
-use Rattle.std.specs.Prelude.{string_bytes, codes, ◌==◌, if◌then◌else◌}
+use Rattle.std.proofs.Common.{◌≡◌, ◌++◌, map, drop}
+use Rattle.std.specs.Prelude.{string_bytes, codes}
 use Rattle.nb_syntax.specs.Print.{each_after, separated, stmt_text, arm_text}
+use Rattle.nb_syntax.proofs.Places.{from_place}
 use Rattle.nb_syntax.proofs.print_stmt.+print_statements.Given as goal
-
--- the texts from this place of a row on
-abbrev pub from_place : ℕ → List ℕ → List (List ℕ) → List ℕ
-from_place place separator ts = if place == 0 then separated separator ts else each_after separator ts
 
 abbrev pub invariant-push_block-loop-stmt : goal.invariant-push_block-loop-stmt
 invariant-push_block-loop-stmt l =
