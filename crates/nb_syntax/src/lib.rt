@@ -4,7 +4,9 @@
 mod copy;
 mod copy_stmt;
 mod generator;
+mod length;
 mod length_expr;
+mod length_stmt;
 mod level;
 mod plain;
 mod print_expr;
@@ -15,6 +17,7 @@ mod sums;
 mod tree;
 
 pub use generator::is_generator;
+pub use length::printed_len;
 pub use plain::is_plain;
 pub use printing::print;
 pub use sums::is_sum;
