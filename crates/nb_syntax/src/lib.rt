@@ -13,6 +13,7 @@ mod print_expr;
 mod print_stmt;
 mod printing;
 mod quoted;
+mod scope;
 mod sums;
 mod tree;
 
