@@ -3,6 +3,7 @@
 
 mod copy;
 mod effects;
+mod expr;
 mod given;
 mod locals;
 mod operate;
