@@ -11,6 +11,7 @@ mod path;
 mod stack;
 mod state;
 mod steps;
+mod stmt;
 mod stop;
 
 pub use given::{Ending, RunEnd, Segment};
