@@ -2,9 +2,13 @@
 #![tactic(auto)]
 
 mod errors;
+mod extremes;
 mod fail;
 mod lengths;
+mod orders;
+mod ranges;
 mod records;
+mod slices;
 mod sums;
 mod texts;
 

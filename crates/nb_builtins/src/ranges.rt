@@ -1,0 +1,46 @@
+ghost use Rattle.std.specs.Prelude.{◌≡◌, ◌↔◌, ◌+◌, ◌≤◌, IsTrue, IfOk};
+ghost use Rattle.nb_builtins.specs.Calls.{Answers, and_then};
+ghost use Rattle.nb_builtins.specs.Ranges.{count_between, ints_from, range_of};
+ghost use Rattle.nb_builtins.specs.Apply.{afforded};
+
+use crate::errors::{out_of_fuel, wrong_kind};
+use crate::fail::ApplyFail;
+use nb_value::{Function, Items, Value};
+use std::alloc::{AllocError, Global};
+
+/// The numbers from the first up to below the end, in time linear in their number. A list that the fuel does not
+/// pay for is not made.
+pub fn range(alloc: Global, first: &Value, end: &Value, fuel: u64) -> Result<Value, ApplyFail>
+    ensures { Answers result (and_then (range_of first.now end.now) (afforded fuel)) }
+{
+    let (Value::Int(first), Value::Int(end)) = (first, end) else {
+        return Err(wrong_kind(alloc, Function::Range));
+    };
+    if !is_paid(count_between(*first, *end), fuel) {
+        return Err(out_of_fuel(alloc));
+    }
+    Ok(Value::List(ints_between(alloc, *first, *end)?))
+}
+
+fn count_between(first: i64, end: i64) -> u64
+    ensures { result ≡ count_between first end }
+{
+    if first < end { end.abs_diff(first) } else { 0 }
+}
+
+// Whether the fuel pays for a list or a text of so many parts of size 1.
+fn is_paid(parts: u64, fuel: u64) -> bool
+    ensures { IsTrue result ↔ (parts + 2 ≤ fuel) }
+{
+    fuel >= 2 && parts <= fuel - 2
+}
+
+fn ints_between(alloc: Global, first: i64, end: i64) -> Result<Items<Value>, AllocError>
+    ensures { IfOk result (λ items. items ≡ ints_from first (count_between first end)) }
+{
+    let mut items = Items::new(alloc);
+    for n in first..end {
+        items.push(Value::Int(n))?;
+    }
+    Ok(items)
+}
