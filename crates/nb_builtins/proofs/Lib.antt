@@ -1,1 +1,3 @@
 mod SortLemmas
+mod RangeLemmas
+mod FuelLemmas

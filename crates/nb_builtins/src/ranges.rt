@@ -13,13 +13,21 @@ use std::alloc::{AllocError, Global};
 pub fn range(alloc: Global, first: &Value, end: &Value, fuel: u64) -> Result<Value, ApplyFail>
     ensures { Answers result (and_then (range_of first.now end.now) (afforded fuel)) }
 {
-    let (Value::Int(first), Value::Int(end)) = (first, end) else {
-        return Err(wrong_kind(alloc, Function::Range));
-    };
-    if !is_paid(count_between(*first, *end), fuel) {
-        return Err(out_of_fuel(alloc));
+    match (first, end) {
+        (Value::Int(first), Value::Int(end)) => paid_range(alloc, *first, *end, fuel),
+        _ => Err(wrong_kind(alloc, Function::Range)),
     }
-    Ok(Value::List(ints_between(alloc, *first, *end)?))
+}
+
+#[tactic(auto, using(crate::proofs::FuelLemmas::paid_range))]
+fn paid_range(alloc: Global, first: i64, end: i64, fuel: u64) -> Result<Value, ApplyFail>
+    ensures { Answers result (afforded fuel (Value.List (ints_from first (count_between first end)))) }
+{
+    if is_paid(count_between(first, end), fuel) {
+        Ok(Value::List(ints_between(alloc, first, end)?))
+    } else {
+        Err(out_of_fuel(alloc))
+    }
 }
 
 fn count_between(first: i64, end: i64) -> u64
