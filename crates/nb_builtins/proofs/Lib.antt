@@ -1,3 +1,4 @@
 mod SortLemmas
 mod RangeLemmas
 mod FuelLemmas
+mod PartLemmas
