@@ -2,3 +2,4 @@ mod SortLemmas
 mod RangeLemmas
 mod FuelLemmas
 mod PartLemmas
+mod NumeralLemmas

@@ -1,6 +1,7 @@
 -- `int`: the number that a text spells.
 use Rattle.std.specs.Prelude.{ℕ, Bool, false, nat_le, ◌&&◌, ◌==◌, ℤ, pos, neg_ℤ, List, [], ◌∷◌, Option, Some, None, option_map, is_some, bytes_eq, codes, Ok, if◌then◌else◌}
-use Rattle.std.specs.Str.{all_ascii_digits}
+use Rattle.std.specs.Char.{is_ascii_digit}
+use Rattle.std.specs.List.{list_all}
 use Rattle.std.specs.Str.Parse.{digits_value}
 use Rattle.nb_value.specs.declared.value.Value.{Value, out-Value}
 use Rattle.nb_value.specs.declared.value.Value.TheOpen.{Value-F}
@@ -12,7 +13,7 @@ use Rattle.nb_builtins.specs.Sums.{in_range}
 -- a digit 1 to 9 and digits after it
 abbrev pub is_positive_numeral : List ℕ → Bool
 is_positive_numeral [] = false
-is_positive_numeral (d ∷ ds) = nat_le 49 d && nat_le d 57 && all_ascii_digits ds
+is_positive_numeral (d ∷ ds) = nat_le 49 d && nat_le d 57 && list_all is_ascii_digit ds
 
 -- the number of such digits
 abbrev pub positive : List ℕ → Option ℕ

@@ -4,6 +4,7 @@
 mod errors;
 mod extremes;
 mod fail;
+mod fuel;
 mod lengths;
 mod numerals;
 mod orders;

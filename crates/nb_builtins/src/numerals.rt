@@ -1,5 +1,6 @@
 ghost use Rattle.std.specs.Prelude.{◌≡◌};
-ghost use Rattle.std.specs.Str.{all_ascii_digits};
+ghost use Rattle.std.specs.Char.{is_ascii_digit};
+ghost use Rattle.std.specs.List.{list_all};
 ghost use Rattle.nb_builtins.specs.Calls.{Answers};
 ghost use Rattle.nb_builtins.specs.Numerals.{is_numeral, is_positive_numeral, spelled, int_within, int_of_text};
 
@@ -51,7 +52,7 @@ fn is_positive_numeral(text: &[u8]) -> bool
 }
 
 fn are_digits(text: &[u8]) -> bool
-    ensures { result ≡ all_ascii_digits text.now }
+    ensures { result ≡ list_all is_ascii_digit text.now }
 {
     text.iter().all(|digit| digit.is_ascii_digit())
 }

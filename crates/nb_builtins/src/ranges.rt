@@ -1,10 +1,11 @@
-ghost use Rattle.std.specs.Prelude.{◌≡◌, ◌↔◌, ◌+◌, ◌≤◌, IsTrue, IfOk};
+ghost use Rattle.std.specs.Prelude.{◌≡◌, IfOk};
 ghost use Rattle.nb_builtins.specs.Calls.{Answers, and_then};
 ghost use Rattle.nb_builtins.specs.Ranges.{count_between, ints_from, range_of};
 ghost use Rattle.nb_builtins.specs.Apply.{afforded};
 
 use crate::errors::{out_of_fuel, wrong_kind};
 use crate::fail::ApplyFail;
+use crate::fuel::is_paid;
 use nb_value::{Function, Items, Value};
 use std::alloc::{AllocError, Global};
 
@@ -34,13 +35,6 @@ fn count_between(first: i64, end: i64) -> u64
     ensures { result ≡ count_between first end }
 {
     if first < end { end.abs_diff(first) } else { 0 }
-}
-
-// Whether the fuel pays for a list or a text of so many parts of size 1.
-fn is_paid(parts: u64, fuel: u64) -> bool
-    ensures { IsTrue result ↔ (parts + 2 ≤ fuel) }
-{
-    fuel >= 2 && parts <= fuel - 2
 }
 
 fn ints_between(alloc: Global, first: i64, end: i64) -> Result<Items<Value>, AllocError>
