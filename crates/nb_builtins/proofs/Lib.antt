@@ -1,0 +1,5 @@
+mod SortLemmas
+mod RangeLemmas
+mod FuelLemmas
+mod PartLemmas
+mod NumeralLemmas

@@ -29,8 +29,13 @@ abbrev pub and_then : {X Y : Type 0} → Called X → (X → Called Y) → Calle
 and_then (Ok x) f = f x
 and_then (Err e) f = Err e
 
--- what a function of the code answers where this is called: just that, or want of memory
+-- what a function of the code answers for a call: just that, or want of memory
 abbrev pub Answers : {X : Type 0} → Result X ApplyFail → Called X → Type 0
 Answers (Ok x) called = called ≡ Ok x
 Answers (Err (Error e)) called = called ≡ Err e
 Answers (Err Memory) called = ⊤
+
+-- the failure is this error, or want of memory
+abbrev pub Fails : ApplyFail → ErrorKind → List ℕ → Type 0
+Fails (Error e) kind detail = e ≡ record { kind = kind; detail = detail; via = None }
+Fails Memory kind detail = ⊤

@@ -1,7 +1,7 @@
 -- `min` and `max`: the least and the greatest of a list of numbers or of a list of texts.
 use Rattle.std.specs.Prelude.{Bool, true, false, ◌||◌, List, [], ◌∷◌, Ok, if◌then◌else◌}
 use Rattle.std.specs.List.{list_all, best_of}
-use Rattle.std.specs.Ordering.{is_lt}
+use Rattle.std.specs.Ordering.{is_lt, is_gt}
 use Rattle.nb_value.specs.declared.value.Value.{Value, out-Value}
 use Rattle.nb_value.specs.declared.value.Value.TheOpen.{Value-F}
 use Rattle.nb_value.specs.declared.function.Function.{Function}
@@ -27,12 +27,16 @@ abbrev pub is_below : Value → Value → Bool
 is_below v w = is_lt (value_cmp v w)
 
 abbrev pub is_above : Value → Value → Bool
-is_above v w = is_lt (value_cmp w v)
+is_above v w = is_gt (value_cmp v w)
+
+-- numbers alone, or texts alone
+abbrev pub are_alike : List Value → Bool
+are_alike vs = list_all is_int vs || list_all is_text vs
 
 -- the item that no other beats
 abbrev pub extreme_of : Function → (Value → Value → Bool) → List Value → Called Value
 extreme_of f beats [] = out_of_range f
-extreme_of f beats (v ∷ vs) = if list_all is_int (v ∷ vs) || list_all is_text (v ∷ vs) then Ok (best_of beats v vs) else wrong_kind f
+extreme_of f beats (v ∷ vs) = if are_alike (v ∷ vs) then Ok (best_of beats v vs) else wrong_kind f
 
 abbrev pub extreme_in : Function → (Value → Value → Bool) → Value-F Value → Called Value
 extreme_in f beats (Value-F.List vs) = extreme_of f beats vs

@@ -18,11 +18,15 @@ parts_after separator (suc n) (b ∷ bs) = parts_after separator n bs
 abbrev pub parts : List ℕ → List ℕ → List (List ℕ)
 parts separator text = parts_after separator 0 text
 
+-- texts with a separator before each
+abbrev pub behind : List ℕ → List (List ℕ) → List ℕ
+behind separator [] = []
+behind separator (t ∷ ts) = separator ++ t ++ behind separator ts
+
 -- texts with a separator between each two
 abbrev pub joined : List ℕ → List (List ℕ) → List ℕ
 joined separator [] = []
-joined separator (t ∷ []) = t
-joined separator (t ∷ u ∷ ts) = t ++ separator ++ joined separator (u ∷ ts)
+joined separator (t ∷ ts) = t ++ behind separator ts
 
 abbrev pub texts_value : List (List ℕ) → Value
 texts_value ts = V.List (map V.Text ts)

@@ -1,6 +1,18 @@
 //! The functions that cells may call.
 #![tactic(auto)]
 
+mod errors;
+mod extremes;
 mod fail;
+mod fuel;
+mod lengths;
+mod numerals;
+mod orders;
+mod parts;
+mod ranges;
+mod records;
+mod slices;
+mod sums;
+mod texts;
 
 pub use fail::ApplyFail;

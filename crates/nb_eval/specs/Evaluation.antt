@@ -71,8 +71,38 @@ abbrev pub disjunction : List Did → Run Bool
 disjunction [] = pure false
 disjunction (x ∷ xs) = x >>= as_truth (codes "||") >>= either (pure true) (disjunction xs)
 
+-- ---- the nodes, each with its charge
+
 abbrev pub truth : Bool → Did
 truth b = done (V.Bool b)
+
+-- an `&&` chain, and an `||` chain
+abbrev pub all_true : List Did → Did
+all_true xs = conjunction xs >>= truth
+
+abbrev pub some_true : List Did → Did
+some_true xs = disjunction xs >>= truth
+
+abbrev pub quoted : List ℕ → Did
+quoted t = done (V.Text t)
+
+abbrev pub name_value_of : Segment → List ℕ → Did
+name_value_of given n = read given n >>= done
+
+abbrev pub list_of : List Did → Did
+list_of xs = parts [] xs >>= (λ vs. lift (within_depth (V.List vs))) >>= done
+
+abbrev pub record_of : List (List ℕ × Did) → Did
+record_of ms = members [] ms >>= (λ fs. lift (within_depth (V.Rec fs))) >>= done
+
+abbrev pub fetch : Segment → Did → Did
+fetch given e = e >>= ask given >>= done
+
+abbrev pub unary : Sign → Did → Did
+unary sign e = e >>= (λ v. lift (signed sign v)) >>= done
+
+abbrev pub comparison : Sign → Value → Value → Did
+comparison sign v w = lift (compared sign v w) >>= done
 
 abbrev pub or_failed : Result Value CellError → Result Value Stop
 or_failed (Ok v) = Ok v
@@ -85,21 +115,21 @@ call function vs = lift (or_failed (called function vs)) >>= done
 module _ (given : Segment) where
   abbrev pub expr_step : layer.Expr-F Did (Value → Did) (List ℕ × Did) (Sign × Did) → Did
   expr_step (layer.Int n) = done (V.Int n)
-  expr_step (layer.Quoted t) = done (V.Text t)
+  expr_step (layer.Quoted t) = quoted t
   expr_step (layer.Bool b) = done (V.Bool b)
   expr_step layer.Null = done V.Null
-  expr_step (layer.Name n) = read given n >>= done
-  expr_step (layer.List xs) = parts [] xs >>= (λ vs. lift (within_depth (V.List vs))) >>= done
-  expr_step (layer.Rec ms) = members [] ms >>= (λ fs. lift (within_depth (V.Rec fs))) >>= done
+  expr_step (layer.Name n) = name_value_of given n
+  expr_step (layer.List xs) = list_of xs
+  expr_step (layer.Rec ms) = record_of ms
   expr_step (layer.Call f xs) = parts [] xs >>= call f
-  expr_step (layer.Fetch e) = e >>= ask given >>= done
+  expr_step (layer.Fetch e) = fetch given e
   expr_step (layer.Path e steps) = e >>= (λ v. path_from v steps)
-  expr_step (layer.Unary sign e) = e >>= (λ v. lift (signed sign v)) >>= done
+  expr_step (layer.Unary sign e) = unary sign e
   expr_step (layer.Product e more) = e >>= (λ v. chain_from product_step v more)
   expr_step (layer.Sum e more) = e >>= (λ v. chain_from sum_step v more)
-  expr_step (layer.Compare sign a b) = a >>= (λ v. b >>= (λ w. lift (compared sign v w))) >>= done
-  expr_step (layer.And xs) = conjunction xs >>= truth
-  expr_step (layer.Or xs) = disjunction xs >>= truth
+  expr_step (layer.Compare sign a b) = a >>= (λ v. b >>= comparison sign v)
+  expr_step (layer.And xs) = all_true xs
+  expr_step (layer.Or xs) = some_true xs
   expr_step (layer.Choose c a b) = c >>= as_truth (codes "?") >>= either a b >>= done
 
   abbrev pub member_step : layer.Member-F Did (Value → Did) (List ℕ × Did) (Sign × Did) → List ℕ × Did

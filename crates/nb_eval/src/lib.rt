@@ -3,6 +3,7 @@
 
 mod copy;
 mod effects;
+mod expr;
 mod given;
 mod locals;
 mod operate;
@@ -10,6 +11,7 @@ mod path;
 mod stack;
 mod state;
 mod steps;
+mod stmt;
 mod stop;
 
 pub use given::{Ending, RunEnd, Segment};
