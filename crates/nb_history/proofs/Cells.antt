@@ -55,7 +55,7 @@ gives n = record { yields = []; cleanups = []; ending = Done (V.Int (pos n)) }
 
 pub evaluates_int : (name : List ℕ) (n : ℕ) (inputs : List (Field Value)) → evaluation (cell name (expr.Int (pos n))) inputs [] 1 ≡ gives n
 unfolding evaluation
-evaluates_int name n inputs = rw (fold_int, size_int) refl
+evaluates_int name n inputs = rw (fold_int) (simp (size_int))
 
 pub size_text : (t : List ℕ) → size (V.Text t) ≡ 1 + length t
 size_text t = ap size (sym (values.rolls-Text t)) ∙ fold-roll-Value ℕ size_step (Value-F.Text t)
