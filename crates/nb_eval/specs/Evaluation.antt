@@ -29,8 +29,8 @@ use Rattle.nb_eval.specs.declared.given.Ending.TheVariants as ending
 use Rattle.nb_eval.specs.declared.given.RunEnd.{RunEnd}
 use Rattle.nb_eval.specs.declared.given.Segment.{Segment}
 use Rattle.nb_eval.specs.declared.stop.Stop.{Stop}
-use Rattle.nb_eval.specs.declared.stop.Stop.TheVariants as stop
-use Rattle.nb_eval.specs.Run.{Run, Out, ◌>>=◌, ◌>>◌, lift, pure, error, failed, tick, done, budget, start_state, read, keep, assign, scoped, as_truth, items_of, within_depth, ask, yielded, cleaned, thrown}
+use Rattle.nb_eval.specs.declared.stop.Stop.TheVariants as stops
+use Rattle.nb_eval.specs.Run.{Run, Out, ◌>>=◌, ◌>>◌, lift, pure, stop, error, failed, tick, done, budget, start_state, read, keep, assign, scoped, as_truth, items_of, within_depth, ask, yielded, cleaned, thrown}
 use Rattle.nb_eval.specs.Operate.{sum_step, product_step, compared, signed, field_of, part_of}
 
 -- ---- expressions, from what their parts do
@@ -104,13 +104,9 @@ unary sign e = e >>= (λ v. lift (signed sign v)) >>= done
 abbrev pub comparison : Sign → Value → Value → Did
 comparison sign v w = lift (compared sign v w) >>= done
 
-abbrev pub or_failed : Result Value CellError → Result Value Stop
-or_failed (Ok v) = Ok v
-or_failed (Err e) = Err (stop.Failed e)
-
 -- a function's value, with its charge
 abbrev pub call : Function → List Value → Did
-call function vs = lift (or_failed (called function vs)) >>= done
+call function vs = lift (called function vs) >>= done
 
 module _ (given : Segment) where
   abbrev pub expr_step : layer.Expr-F Did (Value → Did) (List ℕ × Did) (Sign × Did) → Did
@@ -197,7 +193,7 @@ module _ (given : Segment) where
   stmt_step (level.While e b) = tick >> loop given (eval given e) b
   stmt_step (level.For n e b) = tick >> eval given e >>= (λ v. lift (items_of (codes "for") v)) >>= each n b
   stmt_step (level.Yield e) = tick >> eval given e >>= yielded given
-  stmt_step (level.Return e) = tick >> eval given e >>= (λ v. lift (Err (stop.Done v)))
+  stmt_step (level.Return e) = tick >> eval given e >>= (λ v. stop (stops.Done v))
   stmt_step (level.Throw e) = tick >> eval given e >>= (λ v. lift (thrown v))
   stmt_step (level.Cleanup e) = tick >> eval given e >>= cleaned
 
@@ -237,11 +233,11 @@ within_size false v = if nat_lt 16384 (size v) then ending.Failed (error TooLarg
 -- of a generator or not
 abbrev pub ending_of : Bool → Result Value Stop → Ending
 ending_of generates (Ok v) = within_size generates v
-ending_of generates (Err (stop.Done v)) = within_size generates v
-ending_of generates (Err (stop.Failed e)) = ending.Failed e
-ending_of generates (Err (stop.Needs key)) = ending.Needs key
-ending_of generates (Err stop.Paused) = ending.Paused
-ending_of generates (Err stop.Memory) = ending.Paused
+ending_of generates (Err (stops.Done v)) = within_size generates v
+ending_of generates (Err (stops.Failed e)) = ending.Failed e
+ending_of generates (Err (stops.Needs key)) = ending.Needs key
+ending_of generates (Err stops.Paused) = ending.Paused
+ending_of generates (Err stops.Memory) = ending.Paused
 
 -- what comes out, from where evaluation begins
 abbrev pub run : Segment → Out Value
