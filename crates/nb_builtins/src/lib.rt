@@ -1,10 +1,12 @@
 //! The functions that cells may call.
 #![tactic(auto)]
 
+mod call;
 mod errors;
 mod extremes;
 mod fail;
 mod fuel;
+mod join;
 mod lengths;
 mod numerals;
 mod orders;
@@ -15,4 +17,5 @@ mod slices;
 mod sums;
 mod texts;
 
+pub use call::apply;
 pub use fail::ApplyFail;
