@@ -15,6 +15,8 @@ mod ranges;
 mod records;
 mod slices;
 mod sums;
+#[cfg(test)]
+mod tests;
 mod texts;
 
 pub use call::apply;
