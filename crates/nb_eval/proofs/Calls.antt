@@ -1,15 +1,17 @@
 -- Calls with their fuel: a call's own errors are never want of fuel, so want of fuel is the charge that fails.
-use Rattle.std.proofs.Common.{◌≡◌, ◌≢◌, ℕ, ◌+◌, Bool, true, false, List, [], ◌∷◌, length, Result, Ok, Err, refl, sym, ap, ◌∙◌, subst, ℤ, Option, Some, None}
-use Rattle.std.specs.Prelude.{nat_lt, if◌then◌else◌, ◌&&◌, nat_le}
+use Rattle.std.proofs.Common.{◌≡◌, ◌≢◌, ℕ, ◌+◌, Bool, true, false, List, [], ◌∷◌, length, Ok, Err, refl, sym, ap, ◌∙◌, ℤ, Option, Some, None}
+use Rattle.std.specs.Prelude.{nat_lt, if◌then◌else◌, ◌==◌, pos, nat_abs, ◌+ℤ◌}
 use Rattle.nb_value.specs.declared.value.Value.{Value, out-Value}
 use Rattle.nb_value.specs.declared.value.Value.TheOpen.{Value-F}
+use Rattle.nb_value.specs.declared.value.Value.TheVariants as V
 use Rattle.nb_value.specs.declared.function.Function.{Function}
 use Rattle.nb_value.specs.declared.function.Function.TheVariants as f
 use Rattle.nb_value.specs.declared.outcome.CellError.{CellError}
-use Rattle.nb_value.specs.declared.outcome.ErrorKind.TheVariants.{OutOfFuel}
-use Rattle.nb_value.specs.Function.{arity}
+use Rattle.nb_value.specs.declared.outcome.ErrorKind.{ErrorKind}
+use Rattle.nb_value.specs.declared.outcome.ErrorKind.TheVariants.{WrongKind, OutOfFuel}
+use Rattle.nb_value.specs.Function.{arity, function_name}
 use Rattle.nb_value.specs.Value.{size}
-use Rattle.nb_builtins.specs.Calls.{Called, and_then, failed, wrong_kind, out_of_range, overflow}
+use Rattle.nb_builtins.specs.Calls.{Called, and_then, failed, wrong_kind, out_of_range}
 use Rattle.nb_builtins.specs.Lengths.{len_in}
 use Rattle.nb_builtins.specs.Sums.{in_range, whole, with_item, sum_from, int_value, sum_in, abs_in, int_of}
 use Rattle.nb_builtins.specs.Extremes.{are_alike, extreme_of, extreme_in, is_below, is_above}
@@ -18,8 +20,12 @@ use Rattle.nb_builtins.specs.Slices.{sliced, slice_in, reverse_in, text_of_chars
 use Rattle.nb_builtins.specs.Orders.{sort_in}
 use Rattle.nb_builtins.specs.Records.{keys_in, values_in, has_in}
 use Rattle.nb_builtins.specs.Numerals as numerals
-use Rattle.nb_builtins.specs.Parts.{split_in, join_in, join_texts, all_texts}
+use Rattle.nb_builtins.specs.Parts.{split_in, join_in, parts, texts_value, text_in, texts_of, joined}
 use Rattle.nb_builtins.specs.Apply.{called, afforded, applied}
+use Rattle.nb_eval.specs.declared.state.State.{State}
+use Rattle.nb_eval.specs.declared.stop.Stop.TheVariants.{Failed}
+use Rattle.nb_eval.specs.Run.{◌>>=◌, lift, done, error}
+use Rattle.nb_eval.specs.Evaluation.{call, unpaid}
 
 abbrev pub NotFuel : {X : Type 0} → Called X → Type 0
 NotFuel (Ok x) = Unit {0}
@@ -50,7 +56,7 @@ len_not x = wrong_not Value f.Len
 
 item_not : (total : ℤ) (n : Option ℤ) → NotFuel (with_item total n)
 item_not total None = wrong_not ℤ f.Sum
-item_not total (Some n) = whole_not f.Sum _
+item_not total (Some n) = whole_not f.Sum (total +ℤ n)
 
 sum_from_not : (total : ℤ) (vs : List Value) → NotFuel (sum_from total vs)
 sum_from_not total [] = tt
@@ -61,11 +67,11 @@ int_value_not (Ok n) h = tt
 int_value_not (Err e) h = h
 
 sum_not : (x : Value-F Value) → NotFuel (sum_in x)
-sum_not (Value-F.List vs) = int_value_not (sum_from (ℤ.pos 0) vs) (sum_from_not (ℤ.pos 0) vs)
+sum_not (Value-F.List vs) = int_value_not (sum_from (pos 0) vs) (sum_from_not (pos 0) vs)
 sum_not x = wrong_not Value f.Sum
 
 abs_not : (x : Value-F Value) → NotFuel (abs_in x)
-abs_not (Value-F.Int n) = int_value_not (whole f.Abs _) (whole_not f.Abs _)
+abs_not (Value-F.Int n) = int_value_not (whole f.Abs (pos (nat_abs n))) (whole_not f.Abs (pos (nat_abs n)))
 abs_not x = wrong_not Value f.Abs
 
 extreme_of_not : (function : Function) (beats : Value → Value → Bool) (vs : List Value) → NotFuel (extreme_of function beats vs)
@@ -119,15 +125,21 @@ int_not (Value-F.Text t) = numeral_not (numerals.int_within (numerals.spelled t)
 int_not x = wrong_not Value f.Int
 
 split_not : (x y : Value-F Value) → NotFuel (split_in x y)
-split_not (Value-F.Text t) (Value-F.Text u) = if_not Value _ _ _ (range_not Value f.Split) tt
+split_not (Value-F.Text t) (Value-F.Text u) = if_not Value (length u == 0) (out_of_range f.Split) (Ok (texts_value (parts u t))) (range_not Value f.Split) tt
 split_not x y = wrong_not Value f.Split
 
-join_texts_not : (ts : Option (List (List ℕ))) (separator : List ℕ) → NotFuel (join_texts ts separator)
-join_texts_not None separator = wrong_not Value f.Join
-join_texts_not (Some ts) separator = tt
+text_not : (x : Value-F Value) → NotFuel (text_in x)
+text_not (Value-F.Text t) = tt
+text_not x = wrong_not (List ℕ) f.Join
+
+texts_not : (vs : List Value) → NotFuel (texts_of vs)
+texts_not [] = tt
+texts_not (v ∷ vs) =
+    then_not (List ℕ) (List (List ℕ)) (text_in (out-Value v)) (λ t. and_then (texts_of vs) (λ ts. Ok (t ∷ ts))) (text_not (out-Value v))
+    (λ t. then_not (List (List ℕ)) (List (List ℕ)) (texts_of vs) (λ ts. Ok (t ∷ ts)) (texts_not vs) (λ ts. tt))
 
 join_not : (x y : Value-F Value) → NotFuel (join_in x y)
-join_not (Value-F.List vs) (Value-F.Text separator) = join_texts_not (all_texts vs) separator
+join_not (Value-F.List vs) (Value-F.Text separator) = then_not (List (List ℕ)) Value (texts_of vs) (λ ts. Ok (V.Text (joined separator ts))) (texts_not vs) (λ ts. tt)
 join_not x y = wrong_not Value f.Join
 
 -- the error of a call isn't want of fuel
@@ -171,3 +183,33 @@ wrong_count f.Int (v ∷ []) h = absurd (h refl)
 wrong_count f.Split (v ∷ w ∷ []) h = absurd (h refl)
 wrong_count f.Join (v ∷ w ∷ []) h = absurd (h refl)
 wrong_count function vs h = refl
+
+-- ---- calls with their charge
+
+abbrev err_of : {X : Type 0} → CellError → Called X → CellError
+err_of other (Ok x) = other
+err_of other (Err e) = e
+
+unpaid_other : (k : ErrorKind) (s : State) → k ≢ OutOfFuel → unpaid k s ≡ s
+unpaid_other OutOfFuel s h = absurd (h refl)
+unpaid_other k s h = refl
+
+module _ (s : State) (e : CellError) where
+  at_charge : (v : Value) (b : Bool) → nat_lt s.fuel (1 + size v) ≡ b → (if b then failed OutOfFuel [] else Ok v) ≡ Err e → done v s ≡ (Err (Failed e), unpaid e.kind s)
+  at_charge v true eq q =
+      let is : error OutOfFuel [] ≡ e = ap (λ r. err_of e r) q in
+      rw eq (ap (λ (x : CellError). (Err (Failed x), unpaid x.kind s)) is)
+  at_charge v false eq q = absurd (cc)
+
+  of_called : (r : Called Value) → NotFuel r → and_then r (afforded s.fuel) ≡ Err e → (lift r >>= done) s ≡ (Err (Failed e), unpaid e.kind s)
+  of_called (Ok v) h q = at_charge v (nat_lt s.fuel (1 + size v)) refl q
+  of_called (Err d) h q =
+      let is : d ≡ e = ap (λ r. err_of e r) q in
+      ap (λ (x : State). (Err (Failed d), x)) (sym (unpaid_other d.kind s h)) ∙ ap (λ (x : CellError). (Err (Failed x), unpaid x.kind s)) is
+
+-- an error, and where it is want of fuel the charge that failed
+pub call_stops : (function : Function) (vs : List Value) (s : State) (e : CellError) → applied function vs s.fuel ≡ Err e → call function vs s ≡ (Err (Failed e), unpaid e.kind s)
+call_stops function vs s e q = of_called s e (called function vs) (called_not function vs) q
+
+pub call_wrong : (function : Function) (vs : List Value) (s : State) → length vs ≢ arity function → call function vs s ≡ (Err (Failed (error WrongKind (function_name function))), s)
+call_wrong function vs s h = ap (λ (r : Called Value). (lift r >>= done) s) (wrong_count function vs h)

@@ -1,13 +1,12 @@
 -- The induction over the syntax, once: what holds of each step and of steps in sequence holds of all that
 -- evaluation does, over one segment and over another.
-use Rattle.std.proofs.Common.{◌≡◌, ℕ, zero, suc, ◌+◌, Bool, true, false, ◌&&◌, List, [], ◌∷◌, ◌++◌, map, length, Option, Some, None, Result, Ok, Err, refl, sym, ◌∙◌, subst, codes, take}
+use Rattle.std.proofs.Common.{◌≡◌, ℕ, zero, suc, ◌+◌, Bool, true, false, ◌&&◌, List, [], ◌∷◌, ◌++◌, map, length, Option, Some, None, Ok, Err, refl, sym, ◌∙◌, subst, codes, take}
 use Rattle.std.specs.Prelude.{slice_set}
 use Rattle.nb_value.specs.declared.value.Value.{Value, out-Value}
 use Rattle.nb_value.specs.declared.value.Value.TheOpen as value
 use Rattle.nb_value.specs.declared.value.Value.TheVariants as V
 use Rattle.nb_value.specs.declared.pairs.Field.{Field}
 use Rattle.nb_value.specs.declared.outcome.CellError.{CellError}
-use Rattle.nb_value.specs.declared.function.Function.{Function}
 use Rattle.nb_value.specs.Value.{size}
 use Rattle.nb_value.specs.Fields.{put}
 use Rattle.nb_syntax.specs.declared.tree.Sign.{Sign}
@@ -16,20 +15,19 @@ use Rattle.nb_syntax.specs.declared.tree.Expr.TheOpen as layer
 use Rattle.nb_syntax.specs.declared.tree.PathStep.{PathStep, map-PathStep, fold-roll-PathStep, roll-PathStep}
 use Rattle.nb_syntax.specs.declared.tree.Member.{Member, fold_out-Member, roll-Member}
 use Rattle.nb_syntax.specs.declared.tree.Operand.{Operand, fold_out-Operand, roll-Operand}
-use Rattle.nb_syntax.specs.declared.tree.Stmt.{Stmt, map-Stmt, fold-roll-Stmt, ind-Stmt, roll-Stmt}
+use Rattle.nb_syntax.specs.declared.tree.Stmt.{Stmt, map-Stmt, fold-roll-Stmt, roll-Stmt}
 use Rattle.nb_syntax.specs.declared.tree.Stmt.TheOpen as level
 use Rattle.nb_syntax.specs.declared.tree.Arm.{Arm, fold_out-Arm, roll-Arm}
 use Rattle.nb_syntax.specs.declared.tree.Block.{Block, ind-Block, fold_out-Block, roll-Block}
 use Rattle.nb_syntax.specs.declared.tree.Body.{Body}
 use Rattle.nb_syntax.specs.declared.tree.Body.TheVariants as body
-use Rattle.nb_syntax.specs.Plain.{all_plain, other_plain, expr_plain, path_step_plain, member_plain, operand_plain, stmt_plain, arm_plain, block_plain, body_plain, expr_step as plain_expr, path_step as plain_path, member_step as plain_member, operand_step as plain_operand, stmt_step as plain_stmt, arm_step as plain_arm, block_step as plain_block}
+use Rattle.nb_syntax.specs.Plain.{all_plain, expr_plain, path_step_plain, member_plain, operand_plain, stmt_plain, arm_plain, block_plain, body_plain, expr_step as plain_expr, path_step as plain_path, member_step as plain_member, operand_step as plain_operand, stmt_step as plain_stmt, arm_step as plain_arm, block_step as plain_block}
 use Rattle.nb_builtins.specs.Apply.{called}
 use Rattle.nb_eval.specs.declared.given.Segment.{Segment}
 use Rattle.nb_eval.specs.declared.state.State.{State}
-use Rattle.nb_eval.specs.declared.stop.Stop.{Stop}
 use Rattle.nb_eval.specs.declared.stop.Stop.TheVariants as stops
 use Rattle.nb_eval.specs.Locals.{name_value, place}
-use Rattle.nb_eval.specs.Run.{Run, Out, Called, ◌>>=◌, ◌>>◌, pure, stop, lift, settled, charge, tick, done, read, as_truth, truth_of, items_of, within_depth, ask, ask_at, ask_text, yielded, cleaned, thrown, keep, assign, assign_at, cut_to, scoped}
+use Rattle.nb_eval.specs.Run.{Run, Out, Called, ◌>>=◌, ◌>>◌, pure, stop, lift, charge, tick, done, read, as_truth, truth_of, items_of, within_depth, ask, ask_at, ask_text, yielded, cleaned, thrown, keep, assign, assign_at, cut_to, scoped}
 use Rattle.nb_eval.specs.Operate.{sum_step, product_step, summed, multiplied, compared, signed, field_of, part_of}
 use Rattle.nb_eval.specs.Evaluation.{Did, Acts, eval, member, path_part, operand, expr_step, path_step, member_step, operand_step, parts, members, chain_from, path_from, either, conjunction, disjunction, truth, comparison, call, act, arm, act_block, stmt_step, arm_step, block_step, or_skip, ran, choose, turns, loop, each, in_order, eval_body}
 

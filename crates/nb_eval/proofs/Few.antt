@@ -1,5 +1,5 @@
 -- An evaluation yields at most as often as it is pulled.
-use Rattle.std.proofs.Common.{◌≡◌, ℕ, ◌+◌, ◌-◌, ◌<◌, ◌≤◌, Bool, true, false, List, [], ◌∷◌, ◌++◌, length, Option, Some, None, Result, Ok, Err, refl, arith, length-append}
+use Rattle.std.proofs.Common.{◌≡◌, ℕ, suc, ◌+◌, ◌-◌, ◌<◌, ◌≤◌, Bool, true, false, List, [], ◌∷◌, ◌++◌, length, Option, Some, None, Result, Ok, Err, refl, arith, length-append}
 use Rattle.std.specs.Prelude.{slice_get, nat_lt, if◌then◌else◌}
 use Rattle.std.proofs.lemmas.Bool.Decides.{nat_tests}
 use Rattle.nb_value.specs.declared.value.Value.{Value}
@@ -11,7 +11,7 @@ use Rattle.nb_eval.specs.declared.state.State.{State}
 use Rattle.nb_eval.specs.declared.stop.Stop.{Stop}
 use Rattle.nb_eval.specs.Run.{Run, Out, after, charge, yielded, cleaned, ask_text, answered, budget, start_state}
 use Rattle.nb_eval.specs.Evaluation.{Did, Acts, loop, run}
-use Rattle.nb_eval.proofs.Closed.{Closed, Claim, Both, both_turns, both_body}
+use Rattle.nb_eval.proofs.Closed.{Closed, Claim, both_turns, both_body}
 
 if_case : (A : Type 0) (P : Out A → Type 0) (b : Bool) (x y : Out A) → (b ≡ true → P x) → (b ≡ false → P y) → P (if b then x else y)
 if_case A P true x y hx hy = hx refl
@@ -78,7 +78,7 @@ module _ (g : Segment) where
   }
 
   loop_too : (t t' : Did) (b b' : Acts) → ((s : State) → Keeps Value s (t s) (t' s)) → ((s : State) → Keeps (Unit {0}) s (b s) (b' s)) → (s : State) → Keeps (Unit {0}) s (loop g t b s) (loop g t' b' s)
-  loop_too t t' b b' ht hb s = both_turns false g g Keeps Keeps closed (1 + budget g s) t t' b b' ht hb s
+  loop_too t t' b b' ht hb s = both_turns false g g Keeps Keeps closed (suc (budget g s)) t t' b b' ht hb s
 
   at_most : (r : Result Value Stop) (t : State) → Few r t → length t.yields ≤ most
   at_most (Ok a) t h = omega (arith, h)

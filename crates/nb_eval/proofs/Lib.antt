@@ -1,2 +1,5 @@
 mod Turns
 mod Lasts
+mod Calls
+mod Closed
+mod Few

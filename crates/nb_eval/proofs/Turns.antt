@@ -1,7 +1,6 @@
 -- One more turn of a loop.
-use Rattle.std.proofs.Common.{◌≡◌, ◌≢◌, ◌≤◌, ◌<◌, ℕ, zero, suc, Bool, true, codes, Ok, Err, sym, ap, ◌∙◌, arith}
+use Rattle.std.proofs.Common.{◌≡◌, ◌≤◌, ◌<◌, ℕ, zero, suc, Bool, true, codes, Ok, sym, ap, ◌∙◌, arith}
 use Rattle.nb_value.specs.declared.value.Value.{Value}
-use Rattle.nb_eval.specs.declared.stop.Stop.TheVariants.{Memory}
 use Rattle.nb_eval.specs.declared.given.Segment.{Segment}
 use Rattle.nb_eval.specs.declared.state.State.{State}
 use Rattle.nb_eval.specs.Run.{Run, Out, budget, truth_of, settled, Meets, Gives}

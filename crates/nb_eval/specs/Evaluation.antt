@@ -1,10 +1,10 @@
 -- The evaluation of a cell.
-use Rattle.std.specs.Prelude.{ℕ, zero, suc, Bool, true, false, List, [], ◌∷◌, ◌++◌, length, nat_lt, codes, Option, Some, None, Result, Ok, Err, if◌then◌else◌}
+use Rattle.std.specs.Prelude.{ℕ, zero, suc, ◌+◌, Bool, true, false, List, [], ◌∷◌, ◌++◌, length, nat_lt, codes, Option, Some, None, Result, Ok, Err, if◌then◌else◌}
 use Rattle.nb_value.specs.declared.value.Value.{Value}
 use Rattle.nb_value.specs.declared.value.Value.TheVariants as V
 use Rattle.nb_value.specs.declared.pairs.Field.{Field}
 use Rattle.nb_value.specs.declared.outcome.Answer.{Answer}
-use Rattle.nb_value.specs.declared.outcome.CellError.{CellError}
+use Rattle.nb_value.specs.declared.outcome.ErrorKind.{ErrorKind}
 use Rattle.nb_value.specs.declared.outcome.ErrorKind.TheVariants.{OutOfFuel, TooLarge}
 use Rattle.nb_value.specs.declared.function.Function.{Function}
 use Rattle.nb_value.specs.Value.{size}
@@ -28,6 +28,7 @@ use Rattle.nb_eval.specs.declared.given.Ending.{Ending}
 use Rattle.nb_eval.specs.declared.given.Ending.TheVariants as ending
 use Rattle.nb_eval.specs.declared.given.RunEnd.{RunEnd}
 use Rattle.nb_eval.specs.declared.given.Segment.{Segment}
+use Rattle.nb_eval.specs.declared.state.State.{State}
 use Rattle.nb_eval.specs.declared.stop.Stop.{Stop}
 use Rattle.nb_eval.specs.declared.stop.Stop.TheVariants as stops
 use Rattle.nb_eval.specs.Run.{Run, Out, ◌>>=◌, ◌>>◌, lift, pure, stop, error, failed, tick, done, budget, start_state, read, keep, assign, scoped, as_truth, items_of, within_depth, ask, yielded, cleaned, thrown}
@@ -103,6 +104,11 @@ unary sign e = e >>= (λ v. lift (signed sign v)) >>= done
 
 abbrev pub comparison : Sign → Value → Value → Did
 comparison sign v w = lift (compared sign v w) >>= done
+
+-- an error for want of fuel comes of a charge that fails
+abbrev pub unpaid : ErrorKind → State → State
+unpaid OutOfFuel s = record s { charges = s.charges + 1 }
+unpaid kind s = s
 
 -- a function's value, with its charge
 abbrev pub call : Function → List Value → Did

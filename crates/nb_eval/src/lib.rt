@@ -1,6 +1,7 @@
 //! The evaluation of cells.
 #![tactic(auto)]
 
+mod call;
 mod copy;
 mod done;
 mod effects;

@@ -1,6 +1,6 @@
 //! Evaluation by replay.
 
-ghost use Rattle.std.specs.Prelude.{◌≡◌, ◌≢◌, IfOk, MatchResult};
+ghost use Rattle.std.specs.Prelude.{◌≡◌, ◌≢◌, ◌≤◌, ◌+◌, ◌-◌, length, IfOk, MatchResult};
 ghost use Rattle.nb_eval.specs.Run.{Meets, HasRoom};
 ghost use Rattle.nb_eval.specs.Evaluation.{eval_body, within_size, ending_of, last_of, segment_end};
 
@@ -30,7 +30,7 @@ pub fn evaluate(alloc: Global, segment: Segment) -> Result<Finished, (Segment, A
 fn run(alloc: Global, segment: &Segment) -> Result<RunEnd, AllocError>
     ensures { IfOk result (λ end. end ≡ segment_end segment.now) }
 {
-    let _pulls = segment.pulls;
+    let pulls = segment.pulls;
     let mut state = State::new(alloc);
     let outcome = eval_body(&segment.cell.body, alloc, segment, &mut state);
     let ending = ending_of(alloc, is_generator(&segment.cell), outcome)?;
@@ -42,11 +42,19 @@ fn run(alloc: Global, segment: &Segment) -> Result<RunEnd, AllocError>
     } = state;
     let _locals = locals;
     Ok(RunEnd {
-        made: yields.len() as u32,
+        made: made_of(&yields, pulls),
         last: last_of(alloc, &yields)?,
         cleanups,
         ending,
     })
+}
+
+// The number of yields, which the pulls bound.
+fn made_of(yields: &Items<Value>, pulls: u32) -> u32
+    requires { length yields.now ≤ 1 + (pulls - 1) }
+    ensures { result ≡ length yields.now }
+{
+    yields.len() as u32
 }
 
 fn eval_body(
