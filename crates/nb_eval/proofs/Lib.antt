@@ -3,3 +3,4 @@ mod Lasts
 mod Calls
 mod Closed
 mod Few
+pub mod Endings
