@@ -43,3 +43,6 @@ afforded_at fuel v n e = grind (arith, e)
 
 pub paid_range : (fuel : ℕ) (first : ℤ) (n : ℕ) → afforded fuel (V.List (ints_from first n)) ≡ if nat_lt fuel (2 + n) then failed OutOfFuel [] else Ok (V.List (ints_from first n))
 paid_range fuel first n = afforded_at fuel (V.List (ints_from first n)) n (size-ints_from first n)
+
+pub paid_join : (fuel : ℕ) (t : List ℕ) → afforded fuel (V.Text t) ≡ if nat_lt fuel (2 + length t) then failed OutOfFuel [] else Ok (V.Text t)
+paid_join fuel t = afforded_at fuel (V.Text t) (length t) (size-Text t)

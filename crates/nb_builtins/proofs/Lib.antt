@@ -3,3 +3,4 @@ mod RangeLemmas
 mod FuelLemmas
 mod PartLemmas
 mod NumeralLemmas
+mod JoinLemmas

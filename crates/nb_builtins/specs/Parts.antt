@@ -1,11 +1,11 @@
 -- `split` and `join`: a text as parts with a separator between them.
-use Rattle.std.specs.Prelude.{ℕ, zero, suc, ◌-◌, ◌==◌, nat_eq, List, [], ◌∷◌, ◌++◌, length, map, Option, Some, None, option_map, Ok, if◌then◌else◌}
+use Rattle.std.specs.Prelude.{ℕ, zero, suc, ◌-◌, ◌==◌, nat_eq, List, [], ◌∷◌, ◌++◌, length, map, Ok, if◌then◌else◌}
 use Rattle.std.specs.List.{starts_with, onto_first}
 use Rattle.nb_value.specs.declared.value.Value.{Value, out-Value}
 use Rattle.nb_value.specs.declared.value.Value.TheOpen.{Value-F}
 use Rattle.nb_value.specs.declared.value.Value.TheVariants as V
 use Rattle.nb_value.specs.declared.function.Function.TheVariants.{Split, Join}
-use Rattle.nb_builtins.specs.Calls.{Called, wrong_kind, out_of_range}
+use Rattle.nb_builtins.specs.Calls.{Called, and_then, wrong_kind, out_of_range}
 
 -- The parts of a text that is read from the left, where so many bytes still belong to a separator: where a separator
 -- begins, a part has ended.
@@ -38,25 +38,17 @@ split_in _ _ = wrong_kind Split
 abbrev pub split_of : Value → Value → Called Value
 split_of v separator = split_in (out-Value v) (out-Value separator)
 
-abbrev pub text_in : Value-F Value → Option (List ℕ)
-text_in (Value-F.Text t) = Some t
-text_in _ = None
-
-abbrev pub with_front : {X : Type 0} → Option X → Option (List X) → Option (List X)
-with_front None xs = None
-with_front (Some x) xs = option_map (λ ys. x ∷ ys) xs
+abbrev pub text_in : Value-F Value → Called (List ℕ)
+text_in (Value-F.Text t) = Ok t
+text_in _ = wrong_kind Join
 
 -- the texts that values are, if all of them are texts
-abbrev pub all_texts : List Value → Option (List (List ℕ))
-all_texts [] = Some []
-all_texts (v ∷ vs) = with_front (text_in (out-Value v)) (all_texts vs)
-
-abbrev pub join_texts : Option (List (List ℕ)) → List ℕ → Called Value
-join_texts None separator = wrong_kind Join
-join_texts (Some ts) separator = Ok (V.Text (joined separator ts))
+abbrev pub texts_of : List Value → Called (List (List ℕ))
+texts_of [] = Ok []
+texts_of (v ∷ vs) = and_then (text_in (out-Value v)) (λ t. and_then (texts_of vs) (λ ts. Ok (t ∷ ts)))
 
 abbrev pub join_in : Value-F Value → Value-F Value → Called Value
-join_in (Value-F.List vs) (Value-F.Text separator) = join_texts (all_texts vs) separator
+join_in (Value-F.List vs) (Value-F.Text separator) = and_then (texts_of vs) (λ ts. Ok (V.Text (joined separator ts)))
 join_in _ _ = wrong_kind Join
 
 abbrev pub join_of : Value → Value → Called Value

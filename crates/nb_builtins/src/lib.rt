@@ -1,10 +1,12 @@
 //! The functions that cells may call.
 #![tactic(auto)]
 
+mod call;
 mod errors;
 mod extremes;
 mod fail;
 mod fuel;
+mod join;
 mod lengths;
 mod numerals;
 mod orders;
@@ -13,6 +15,9 @@ mod ranges;
 mod records;
 mod slices;
 mod sums;
+#[cfg(test)]
+mod tests;
 mod texts;
 
+pub use call::apply;
 pub use fail::ApplyFail;

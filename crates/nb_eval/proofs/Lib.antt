@@ -1,1 +1,6 @@
 mod Turns
+mod Lasts
+mod Calls
+mod Closed
+mod Few
+pub mod Endings

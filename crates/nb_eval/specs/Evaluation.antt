@@ -1,10 +1,10 @@
 -- The evaluation of a cell.
-use Rattle.std.specs.Prelude.{ℕ, zero, suc, Bool, true, false, List, [], ◌∷◌, ◌++◌, length, nat_lt, codes, Option, Some, None, Result, Ok, Err, if◌then◌else◌}
+use Rattle.std.specs.Prelude.{ℕ, zero, suc, ◌+◌, Bool, true, false, List, [], ◌∷◌, ◌++◌, length, nat_lt, codes, Option, Some, None, Result, Ok, Err, if◌then◌else◌}
 use Rattle.nb_value.specs.declared.value.Value.{Value}
 use Rattle.nb_value.specs.declared.value.Value.TheVariants as V
 use Rattle.nb_value.specs.declared.pairs.Field.{Field}
 use Rattle.nb_value.specs.declared.outcome.Answer.{Answer}
-use Rattle.nb_value.specs.declared.outcome.CellError.{CellError}
+use Rattle.nb_value.specs.declared.outcome.ErrorKind.{ErrorKind}
 use Rattle.nb_value.specs.declared.outcome.ErrorKind.TheVariants.{OutOfFuel, TooLarge}
 use Rattle.nb_value.specs.declared.function.Function.{Function}
 use Rattle.nb_value.specs.Value.{size}
@@ -28,9 +28,10 @@ use Rattle.nb_eval.specs.declared.given.Ending.{Ending}
 use Rattle.nb_eval.specs.declared.given.Ending.TheVariants as ending
 use Rattle.nb_eval.specs.declared.given.RunEnd.{RunEnd}
 use Rattle.nb_eval.specs.declared.given.Segment.{Segment}
+use Rattle.nb_eval.specs.declared.state.State.{State}
 use Rattle.nb_eval.specs.declared.stop.Stop.{Stop}
-use Rattle.nb_eval.specs.declared.stop.Stop.TheVariants as stop
-use Rattle.nb_eval.specs.Run.{Run, Out, ◌>>=◌, ◌>>◌, lift, pure, error, failed, tick, done, budget, start_state, read, keep, assign, scoped, as_truth, items_of, within_depth, ask, yielded, cleaned, thrown}
+use Rattle.nb_eval.specs.declared.stop.Stop.TheVariants as stops
+use Rattle.nb_eval.specs.Run.{Run, Out, ◌>>=◌, ◌>>◌, lift, pure, stop, error, failed, tick, done, budget, start_state, read, keep, assign, scoped, as_truth, items_of, within_depth, ask, yielded, cleaned, thrown}
 use Rattle.nb_eval.specs.Operate.{sum_step, product_step, compared, signed, field_of, part_of}
 
 -- ---- expressions, from what their parts do
@@ -104,13 +105,14 @@ unary sign e = e >>= (λ v. lift (signed sign v)) >>= done
 abbrev pub comparison : Sign → Value → Value → Did
 comparison sign v w = lift (compared sign v w) >>= done
 
-abbrev pub or_failed : Result Value CellError → Result Value Stop
-or_failed (Ok v) = Ok v
-or_failed (Err e) = Err (stop.Failed e)
+-- an error for want of fuel comes of a charge that fails
+abbrev pub unpaid : ErrorKind → State → State
+unpaid OutOfFuel s = record s { charges = s.charges + 1 }
+unpaid kind s = s
 
 -- a function's value, with its charge
 abbrev pub call : Function → List Value → Did
-call function vs = lift (or_failed (called function vs)) >>= done
+call function vs = lift (called function vs) >>= done
 
 module _ (given : Segment) where
   abbrev pub expr_step : layer.Expr-F Did (Value → Did) (List ℕ × Did) (Sign × Did) → Did
@@ -197,7 +199,7 @@ module _ (given : Segment) where
   stmt_step (level.While e b) = tick >> loop given (eval given e) b
   stmt_step (level.For n e b) = tick >> eval given e >>= (λ v. lift (items_of (codes "for") v)) >>= each n b
   stmt_step (level.Yield e) = tick >> eval given e >>= yielded given
-  stmt_step (level.Return e) = tick >> eval given e >>= (λ v. lift (Err (stop.Done v)))
+  stmt_step (level.Return e) = tick >> eval given e >>= (λ v. stop (stops.Done v))
   stmt_step (level.Throw e) = tick >> eval given e >>= (λ v. lift (thrown v))
   stmt_step (level.Cleanup e) = tick >> eval given e >>= cleaned
 
@@ -237,11 +239,11 @@ within_size false v = if nat_lt 16384 (size v) then ending.Failed (error TooLarg
 -- of a generator or not
 abbrev pub ending_of : Bool → Result Value Stop → Ending
 ending_of generates (Ok v) = within_size generates v
-ending_of generates (Err (stop.Done v)) = within_size generates v
-ending_of generates (Err (stop.Failed e)) = ending.Failed e
-ending_of generates (Err (stop.Needs key)) = ending.Needs key
-ending_of generates (Err stop.Paused) = ending.Paused
-ending_of generates (Err stop.Memory) = ending.Paused
+ending_of generates (Err (stops.Done v)) = within_size generates v
+ending_of generates (Err (stops.Failed e)) = ending.Failed e
+ending_of generates (Err (stops.Needs key)) = ending.Needs key
+ending_of generates (Err stops.Paused) = ending.Paused
+ending_of generates (Err stops.Memory) = ending.Paused
 
 -- what comes out, from where evaluation begins
 abbrev pub run : Segment → Out Value

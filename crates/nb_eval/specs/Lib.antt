@@ -2,3 +2,4 @@ pub mod Locals
 pub mod Run
 pub mod Operate
 pub mod Evaluation
+pub mod Work

@@ -39,25 +39,36 @@ infixl 10 ◌>>◌
 abbrev pub ◌>>◌ : {A B : Type 0} → Run A → Run B → Run B
 p >> q = p >>= (λ _. q)
 
--- a step that reads nothing of the state and changes nothing
-abbrev pub lift : {A : Type 0} → Result A Stop → Run A
-lift r s = (r, s)
-
 abbrev pub pure : {A : Type 0} → A → Run A
-pure a = lift (Ok a)
+pure a s = (Ok a, s)
+
+abbrev pub stop : {A : Type 0} → Stop → Run A
+stop e s = (Err e, s)
 
 -- ---- errors
 
 abbrev pub error : ErrorKind → List ℕ → CellError
 error kind detail = record { kind = kind; detail = detail; via = None }
 
+-- a value or an error, whatever the state
+abbrev pub Called : Type 0 → Type 0
+Called A = Result A CellError
+
 -- an error whose detail is a sign, a word or a function
-abbrev pub failed : {A : Type 0} → ErrorKind → List ℕ → Result A Stop
-failed kind word = Err (Failed (error kind word))
+abbrev pub failed : {A : Type 0} → ErrorKind → List ℕ → Called A
+failed kind word = Err (error kind word)
 
 -- an error whose detail is a text of any length: its first 200 characters
-abbrev pub failed_with : {A : Type 0} → ErrorKind → List ℕ → Result A Stop
+abbrev pub failed_with : {A : Type 0} → ErrorKind → List ℕ → Called A
 failed_with kind text = failed kind (take_chars 200 text)
+
+abbrev pub settled : {A : Type 0} → Called A → Result A Stop
+settled (Ok a) = Ok a
+settled (Err e) = Err (Failed e)
+
+-- a step that reads nothing of the state and changes nothing
+abbrev pub lift : {A : Type 0} → Called A → Run A
+lift r s = (settled r, s)
 
 -- ---- fuel
 
@@ -121,36 +132,36 @@ scoped p s = (p >> cut_to (length s.locals)) s
 
 -- ---- kinds
 
-abbrev pub truth_in : List ℕ → value.Value-F Value → Result Bool Stop
+abbrev pub truth_in : List ℕ → value.Value-F Value → Called Bool
 truth_in word (value.Bool b) = Ok b
 truth_in word _ = failed WrongKind word
 
-abbrev pub truth_of : List ℕ → Value → Result Bool Stop
+abbrev pub truth_of : List ℕ → Value → Called Bool
 truth_of word v = truth_in word (out-Value v)
 
 abbrev pub as_truth : List ℕ → Value → Run Bool
 as_truth word v = lift (truth_of word v)
 
-abbrev pub items_in : List ℕ → value.Value-F Value → Result (List Value) Stop
+abbrev pub items_in : List ℕ → value.Value-F Value → Called (List Value)
 items_in word (value.List vs) = Ok vs
 items_in word _ = failed WrongKind word
 
-abbrev pub items_of : List ℕ → Value → Result (List Value) Stop
+abbrev pub items_of : List ℕ → Value → Called (List Value)
 items_of word v = items_in word (out-Value v)
 
 -- a list or a record may be 64 levels deep
-abbrev pub within_depth : Value → Result Value Stop
+abbrev pub within_depth : Value → Called Value
 within_depth v = if nat_lt 64 (depth v) then failed TooLarge (codes "depth") else Ok v
 
 -- ---- fetches
 
-abbrev pub value_of : Answer → Result Value Stop
+abbrev pub value_of : Answer → Called Value
 value_of (answer.Value v) = Ok v
 value_of (answer.Failure text) = failed_with FetchFailed text
 
 abbrev pub answered : Option Answer → List ℕ → Run Value
-answered None key = lift (Err (Needs key))
-answered (Some a) key = λ s. (value_of a, record s { taken = s.taken + 1 })
+answered None key = stop (Needs key)
+answered (Some a) key = λ s. (settled (value_of a), record s { taken = s.taken + 1 })
 
 -- the next answer that isn't taken
 abbrev pub next_answer : Segment → List ℕ → Run Value
@@ -158,8 +169,8 @@ next_answer given key s = answered (slice_get given.answers s.taken) key (record
 
 abbrev pub ask_text : Segment → List ℕ → Run Value
 ask_text given key s =
-    if nat_lt 1024 (1 + length key) then (failed TooLarge (codes "fetch"), s)
-    else (if nat_lt s.fetches 64 then next_answer given key s else (failed TooManyFetches (codes "fetch"), s))
+    if nat_lt 1024 (1 + length key) then (settled (failed TooLarge (codes "fetch")), s)
+    else (if nat_lt s.fetches 64 then next_answer given key s else (settled (failed TooManyFetches (codes "fetch")), s))
 
 abbrev pub ask_at : Segment → value.Value-F Value → Run Value
 ask_at given (value.Text key) = ask_text given key
@@ -179,22 +190,22 @@ go_on given s =
 
 abbrev pub yielded : Segment → Value → Run (Unit {0})
 yielded given v s =
-    if nat_lt 16384 (size v) then (failed TooLarge (codes "value"), s)
+    if nat_lt 16384 (size v) then (settled (failed TooLarge (codes "value")), s)
     else go_on given (record s { yields = s.yields ++ v ∷ [] })
 
 abbrev pub cleaned : Value → Run (Unit {0})
 cleaned v s =
-    if nat_lt 1024 (size v) then (failed TooLarge (codes "cleanup"), s)
+    if nat_lt 1024 (size v) then (settled (failed TooLarge (codes "cleanup")), s)
     else (if nat_lt (length s.cleanups) 16
     then (Ok tt, record s { cleanups = s.cleanups ++ v ∷ [] })
-    else (failed TooLarge (codes "cleanup"), s))
+    else (settled (failed TooLarge (codes "cleanup")), s))
 
 abbrev pub text_or : value.Value-F Value → List ℕ → List ℕ
 text_or (value.Text t) other = t
 text_or _ other = other
 
 -- a text is thrown as it is, another value as its JSON
-abbrev pub thrown : Value → Result (Unit {0}) Stop
+abbrev pub thrown : Value → Called (Unit {0})
 thrown v = failed_with Thrown (text_or (out-Value v) (json_text v))
 
 -- ---- what a call of the evaluator says
@@ -203,9 +214,9 @@ thrown v = failed_with Thrown (text_or (out-Value v) (json_text v))
 abbrev pub Meets : {A : Type 0} → Result A Stop → State → Out A → Type 0
 Meets result new out = result ≢ Err Memory → out ≡ (result, new)
 
--- the same of what reads nothing of the state and changes nothing
-abbrev pub Gives : {A : Type 0} → Result A Stop → Result A Stop → Type 0
-Gives result r = result ≢ Err Memory → r ≡ result
+-- the same of a value or an error, whatever the state
+abbrev pub Gives : {A : Type 0} → Result A Stop → Called A → Type 0
+Gives result r = result ≢ Err Memory → settled r ≡ result
 
 -- there is room for as many charges as may come
 abbrev pub HasRoom : Segment → State → Type 0

@@ -5,6 +5,7 @@ ghost use Rattle.nb_eval.specs.Run.{Meets, HasRoom, Spends, SpendsAtMost};
 ghost use Rattle.nb_eval.specs.Operate.{sum_step, product_step};
 ghost use Rattle.nb_eval.specs.Evaluation.{eval, member, path_part, operand, parts, members, path_from, chain_from, all_true, some_true, quoted, name_value_of, list_of, record_of, fetch, unary, comparison};
 
+use crate::call::call;
 use crate::effects::ask;
 use crate::given::Segment;
 use crate::locals::read;
@@ -37,7 +38,10 @@ pub fn eval_expr(
         Expr::Name(name) => named(alloc, given, state, name),
         Expr::List(items) => eval_list(items, alloc, given, state),
         Expr::Rec(members) => eval_record(members, alloc, given, state),
-        Expr::Call(function, args) => Err(Stop::Memory),
+        Expr::Call(function, args) => {
+            let args = eval_parts(args, alloc, given, state)?;
+            call(alloc, given, state, *function, &args)
+        }
         Expr::Fetch(key) => eval_fetch(key, alloc, given, state),
         Expr::Path(root, steps) => {
             let root = eval_expr(root.get(), alloc, given, state)?;

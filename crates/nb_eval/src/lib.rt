@@ -1,17 +1,26 @@
 //! The evaluation of cells.
 #![tactic(auto)]
 
+mod call;
 mod copy;
+mod done;
 mod effects;
 mod expr;
+mod finished;
 mod given;
 mod locals;
 mod operate;
 mod path;
+mod replay;
 mod stack;
 mod state;
 mod steps;
 mod stmt;
 mod stop;
+mod work;
 
+pub use done::is_work_of;
+pub use finished::Finished;
 pub use given::{Ending, RunEnd, Segment};
+pub use replay::evaluate;
+pub use work::{Work, WorkDone};

@@ -3,7 +3,8 @@
 ghost use Rattle.std.specs.Prelude.{◌≡◌, ◌≢◌, ◌++◌, IfOk, OnOk};
 ghost use Rattle.nb_value.specs.declared.value.Value.{out-Value};
 ghost use Rattle.nb_eval.specs.Run.{Meets, Gives, HasRoom, Spends};
-ghost use Rattle.nb_eval.specs.Operate.{sign_text, wrong_kind, add, summed, multiplied, int_or, ordered, compared, signed, sum_step, product_step};
+ghost use Rattle.nb_syntax.specs.Print.{sign_text};
+ghost use Rattle.nb_eval.specs.Operate.{wrong_kind, add, summed, multiplied, int_or, ordered, compared, signed, sum_step, product_step};
 
 use crate::given::Segment;
 use crate::state::State;

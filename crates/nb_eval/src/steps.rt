@@ -1,6 +1,6 @@
 //! Errors and charges.
 
-ghost use Rattle.std.specs.Prelude.{◌≡◌, ◌≢◌, ◌+◌, ◌<◌, ◌^◌, OnOk};
+ghost use Rattle.std.specs.Prelude.{◌≡◌, ◌≢◌, ◌+◌, ◌<◌, ◌^◌, IfOk, OnOk};
 ghost use Rattle.std.specs.Fmt.{take_chars};
 ghost use Rattle.nb_value.specs.Value.{size};
 ghost use Rattle.nb_eval.specs.Run.{Meets, Gives, HasRoom, Spends, error, charge, tick, done, truth_of, items_of, within_depth};
@@ -9,23 +9,30 @@ use crate::given::Segment;
 use crate::state::State;
 use crate::stop::Stop;
 use nb_value::{CellError, ErrorKind, Items, Text, Value};
-use std::alloc::Global;
+use std::alloc::{AllocError, Global};
 
 /// An error whose detail is a word.
+pub fn error(alloc: Global, kind: ErrorKind, word: &str) -> Result<CellError, AllocError>
+    ensures { IfOk result (λ e. e ≡ error kind word.now) }
+{
+    Ok(CellError {
+        kind,
+        detail: Text::from_str(alloc, word)?,
+        via: None,
+    })
+}
+
+/// What ends an evaluation with an error whose detail is a word.
 pub fn failure(alloc: Global, kind: ErrorKind, word: &str) -> Stop
     ensures { result ≢ Stop.Memory → result ≡ Stop.Failed (error kind word.now) }
 {
-    match Text::from_str(alloc, word) {
-        Ok(detail) => Stop::Failed(CellError {
-            kind,
-            detail,
-            via: None,
-        }),
+    match error(alloc, kind, word) {
+        Ok(error) => Stop::Failed(error),
         Err(_) => Stop::Memory,
     }
 }
 
-/// An error whose detail is the front of a text: its first 200 characters.
+/// What ends an evaluation with an error whose detail is the front of a text: its first 200 characters.
 pub fn failure_with(alloc: Global, kind: ErrorKind, text: &Text) -> Stop
     ensures { result ≢ Stop.Memory → result ≡ Stop.Failed (error kind (take_chars 200 text.now)) }
 {

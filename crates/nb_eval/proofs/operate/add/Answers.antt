@@ -1,4 +1,4 @@
-use Rattle.std.proofs.Common.{rules, ◌≡◌, ◌≢◌}
+use Rattle.std.proofs.Common.{rules}
 use Rattle.nb_eval.proofs.operate.add.Goals as goal
 use Rattle.nb_eval.proofs.operate.add.Goals.{in_default-via-in-Int+in_default, in_default-via-in-Text+in_default, in_default-via-in-List+in_default, in_default-via-in_default}
 
