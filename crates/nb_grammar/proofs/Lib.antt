@@ -4,3 +4,7 @@ pub mod SoundPrimary
 pub mod SoundExpr
 pub mod SoundStmts
 pub mod Sound
+pub mod Grows
+pub mod Begins
+pub mod CompletePrimary
+pub mod CompleteExpr
