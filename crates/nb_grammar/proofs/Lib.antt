@@ -8,3 +8,5 @@ pub mod Grows
 pub mod Begins
 pub mod CompletePrimary
 pub mod CompleteExpr
+pub mod CompleteStmts
+pub mod Complete
