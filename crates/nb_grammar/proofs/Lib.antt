@@ -10,3 +10,4 @@ pub mod CompletePrimary
 pub mod CompleteExpr
 pub mod CompleteStmts
 pub mod Complete
+pub mod Loops
