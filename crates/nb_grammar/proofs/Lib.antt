@@ -11,3 +11,7 @@ pub mod CompleteExpr
 pub mod CompleteStmts
 pub mod Complete
 pub mod Loops
+pub mod Runs
+pub mod RunsPrimary
+pub mod RunsExpr
+pub mod RunsCell
