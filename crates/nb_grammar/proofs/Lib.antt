@@ -15,3 +15,5 @@ pub mod Runs
 pub mod RunsPrimary
 pub mod RunsExpr
 pub mod RunsCell
+pub mod Finish
+pub mod Walk
