@@ -17,3 +17,5 @@ pub mod RunsExpr
 pub mod RunsCell
 pub mod Finish
 pub mod Walk
+pub mod Faults
+pub mod Laws
