@@ -19,3 +19,4 @@ pub mod Finish
 pub mod Walk
 pub mod Faults
 pub mod Laws
+pub mod FormLaws
