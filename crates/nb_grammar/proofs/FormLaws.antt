@@ -1,11 +1,8 @@
 -- The form of a tree by its node.
-use Rattle.std.proofs.Common.{◌≡◌, ◌≤◌, ◌<◌, ◌↔◌, ◌+◌, ◌-◌, ℕ, ℤ, pos, zero, suc, max, Bool, true, false, ◌&&◌, cond, refl, sym, ap, subst, ◌∙◌, List, [], ◌∷◌, ◌++◌, length, map, Option, Some, None, Result, Ok, Err, append_assoc, append-nil, arith, lit<, lit≤}
-use Rattle.nb_value.specs.Function.{function_name, arity}
+use Rattle.std.proofs.Common.{◌≡◌, ℕ, ℤ, Bool, refl, sym, ap, ◌∙◌, List, map, Option, Some, None}
+use Rattle.nb_value.specs.Function.{arity}
 use Rattle.nb_value.specs.declared.function.Function.{Function}
-use Rattle.nb_lexer.specs.declared.word.Word.{Word}
-use Rattle.nb_lexer.specs.declared.word.Word.TheVariants as word
 use Rattle.nb_syntax.specs.declared.tree.Sign.{Sign}
-use Rattle.nb_syntax.specs.declared.tree.Sign.TheVariants as sign
 use Rattle.nb_syntax.specs.declared.tree.Expr.{Expr}
 use Rattle.nb_syntax.specs.declared.tree.Expr.TheVariants as tree
 use Rattle.nb_syntax.specs.declared.tree.PathStep.{PathStep}
@@ -14,21 +11,10 @@ use Rattle.nb_syntax.specs.declared.tree.Operand.{Operand}
 use Rattle.nb_syntax.specs.declared.tree.Member.{Member}
 use Rattle.nb_syntax.specs.declared.tree.Block.{Block}
 use Rattle.nb_syntax.specs.declared.tree.Arm.{Arm}
-use Rattle.nb_syntax.specs.declared.tree.Stmt.{Stmt}
 use Rattle.nb_syntax.specs.declared.tree.Stmt.TheVariants as stmt
-use Rattle.nb_syntax.specs.declared.tree.Body.{Body}
-use Rattle.nb_syntax.specs.declared.tree.Body.TheVariants as body
-use Rattle.nb_syntax.specs.declared.tree.Cell.{Cell}
-use Rattle.nb_grammar.specs.declared.fault.Fault.{Fault}
-use Rattle.nb_grammar.specs.declared.fault.Fault.TheVariants.{Unexpected, Ended, TooDeep}
-use Rattle.nb_grammar.specs.declared.fault.Stop.{Stop}
-use Rattle.nb_grammar.specs.declared.fault.Stop.TheVariants as stops
-use Rattle.nb_grammar.specs.Words.{product_sign, sum_sign, compare_sign, called}
-use Rattle.nb_grammar.specs.Reading as r
-use Rattle.nb_grammar.specs.Reading.{Read, ◌>>=◌, many, rounds, onward, inside_of, Inside, Inner, fault, Gives}
 use Rattle.nb_grammar.specs.Grammar as g
 use Rattle.nb_grammar.specs.Grammar.{ExprWay, OrWay, OrParts, AndWay, AndParts, CompareWay, SumWay, Summands, ProductWay, Factors, UnaryWay, PostfixWay, Steps, PrimaryWay, Items, Pairs, PairWay, KeyWay, BlockWay, Stmts, StmtWay, ElseIfs, ElseWay, BodyWay, CellWay, CompareSign, SumSign, ProductSign, UnarySign}
-use Rattle.nb_syntax.specs.declared.tree.Expr.{fold-roll-Expr, fold-Expr}
+use Rattle.nb_syntax.specs.declared.tree.Expr.{fold-roll-Expr}
 use Rattle.nb_syntax.specs.declared.tree.Expr.TheOpen as layer
 use Rattle.nb_syntax.specs.declared.tree.Expr.TheViews as views
 use Rattle.nb_syntax.specs.declared.tree.PathStep.{fold-roll-PathStep}
@@ -39,7 +25,6 @@ use Rattle.nb_syntax.specs.declared.tree.Stmt.TheOpen as stmt_layer
 use Rattle.nb_syntax.specs.declared.tree.Stmt.TheViews as stmt_views
 use Rattle.nb_syntax.specs.declared.tree.Arm.{fold_out-Arm}
 use Rattle.nb_syntax.specs.declared.tree.Block.{fold_out-Block}
-use Rattle.nb_grammar.specs.Law.{Spells}
 use Rattle.nb_grammar.specs.Forms as f
 use Rattle.nb_grammar.specs.Forms.{Forms, of_primary, of_expr, of_or, of_and, of_compare, of_sum, of_product, of_unary, of_postfix, as_compare, as_sum, as_product, as_unary, or_parts_of, and_parts_of, summands_of, factors_of, steps_of, items_of, pairs_of, list_of, record_of, truth_of, call_of, expr_step, path_step, member_step, operand_step, forms, step_forms, member_forms, operand_forms, stmts_of, else_ifs_of, else_of, stmt_step, arm_step, block_step, stmt_form, arm_form, block_form, body_form, cell_form, printed}
 

@@ -20,3 +20,5 @@ pub mod Walk
 pub mod Faults
 pub mod Laws
 pub mod FormLaws
+pub mod FormExpr
+pub mod FormCell
