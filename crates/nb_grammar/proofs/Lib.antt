@@ -22,3 +22,4 @@ pub mod Laws
 pub mod FormLaws
 pub mod FormExpr
 pub mod FormCell
+pub mod FormDepth
