@@ -59,7 +59,7 @@ fine_primary d = record { expr_is = refl; or_is = refl; and_is = refl; compare_i
 along : (f g : Forms) (d e : Expr) → f ≡ g → d ≡ e → Fine g d → Fine f e
 along f g d e p q h = subst (λ z. Fine z e) (sym p) (subst (λ z. Fine g z) q h)
 
-as_compare_again : (s : CompareSign) → as_compare (g.compare_operator s) ≡ s
+pub as_compare_again : (s : CompareSign) → as_compare (g.compare_operator s) ≡ s
 as_compare_again g.equal = refl
 as_compare_again g.not_equal = refl
 as_compare_again g.less = refl
@@ -67,16 +67,16 @@ as_compare_again g.less_or_equal = refl
 as_compare_again g.greater = refl
 as_compare_again g.greater_or_equal = refl
 
-as_sum_again : (s : SumSign) → as_sum (g.sum_operator s) ≡ s
+pub as_sum_again : (s : SumSign) → as_sum (g.sum_operator s) ≡ s
 as_sum_again g.plus = refl
 as_sum_again g.minus = refl
 
-as_product_again : (s : ProductSign) → as_product (g.product_operator s) ≡ s
+pub as_product_again : (s : ProductSign) → as_product (g.product_operator s) ≡ s
 as_product_again g.times = refl
 as_product_again g.divide = refl
 as_product_again g.remainder = refl
 
-as_unary_again : (s : UnarySign) → as_unary (g.unary_operator s) ≡ s
+pub as_unary_again : (s : UnarySign) → as_unary (g.unary_operator s) ≡ s
 as_unary_again g.negative = refl
 as_unary_again g.not = refl
 

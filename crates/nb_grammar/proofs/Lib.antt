@@ -23,3 +23,6 @@ pub mod FormLaws
 pub mod FormExpr
 pub mod FormCell
 pub mod FormDepth
+pub mod EachWord
+pub mod FormWords
+pub mod Printing
