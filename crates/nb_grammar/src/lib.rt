@@ -1,0 +1,6 @@
+//! The grammar of cells.
+#![tactic(auto)]
+
+mod fault;
+
+pub use fault::{Fault, Stop};
