@@ -1,0 +1,4 @@
+pub mod Runs
+pub mod NumberLemmas
+pub mod QuotedLemmas
+pub mod TextLemmas

@@ -1,7 +1,11 @@
 //! The tokens of a cell's text.
 #![tactic(auto)]
 
+mod characters;
 mod fault;
+mod fixed;
+mod number;
+mod quoted;
 mod token;
 mod word;
 
