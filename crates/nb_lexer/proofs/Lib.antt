@@ -2,3 +2,4 @@ pub mod Runs
 pub mod NumberLemmas
 pub mod QuotedLemmas
 pub mod TextLemmas
+pub mod FixedLemmas

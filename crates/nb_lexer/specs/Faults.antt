@@ -4,18 +4,19 @@ use Rattle.std.specs.Str.Parse.{digits_value}
 use Rattle.nb_lexer.specs.declared.word.Word.{Word}
 use Rattle.nb_lexer.specs.declared.fault.LexError.{LexError}
 use Rattle.nb_lexer.specs.declared.fault.LexError.TheVariants.{BadCharacter, OpenText, BadEscape, TooWide, Memory}
-use Rattle.nb_lexer.specs.Characters.{is_digit, is_letter, is_in_name}
+use Rattle.nb_lexer.specs.Characters.{is_digit, is_letter, is_in_name, is_gap}
 use Rattle.nb_lexer.specs.Words.{sign}
 use Rattle.nb_lexer.specs.Spelling.{is_numeral, too_wide, Escape, letter, Part, parts_text}
 use Rattle.nb_lexer.specs.Lexes.{Placed, Leads}
 
 -- In all of these, text is what stands from the place at on.
 
--- A character that begins no token: no letter, digit, quote or sign. A single `&` or `|` is no sign.
+-- A character that begins no token and is no gap: no letter, digit, quote or sign. A single `&` or `|` is no sign.
 pub record IsStray (at : ℕ) (text : List ℕ) (place : ℕ) : Type 0 where
   pub first : ℕ
   pub more : List ℕ
   pub text_is : text ≡ first ∷ more
+  pub no_gap : is_gap first ≡ false
   pub no_letter : is_letter first ≡ false
   pub no_digit : is_digit first ≡ false
   pub no_quote : first ≢ 34

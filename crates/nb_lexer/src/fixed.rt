@@ -1,4 +1,4 @@
-ghost use Rattle.std.specs.Prelude.{◌≡◌, option_map};
+ghost use Rattle.std.specs.Prelude.{◌≡◌, option_map, length};
 ghost use Rattle.nb_lexer.specs.Words.{keyword, sign, fixed_text};
 
 use crate::word::Word;
@@ -41,38 +41,38 @@ pub fn keyword(bytes: &[u8]) -> Option<Word>
     }
 }
 
-/// The longest sign at the front of the bytes, if there is one.
+/// The longest sign at the front of the bytes, and how many bytes it takes; if there is one.
 #[tactic(auto, unfolding(crate::specs::Words::sign))]
-pub fn sign(bytes: &[u8]) -> Option<Word>
-    ensures { result ≡ sign bytes.now }
+pub fn sign(bytes: &[u8]) -> Option<(Word, usize)>
+    ensures { result ≡ option_map (λ w. (w, length (fixed_text w))) (sign bytes.now) }
 {
     match bytes {
-        [b'=', b'=', ..] => Some(Word::Equal),
-        [b'!', b'=', ..] => Some(Word::NotEqual),
-        [b'<', b'=', ..] => Some(Word::LessOrEqual),
-        [b'>', b'=', ..] => Some(Word::GreaterOrEqual),
-        [b'&', b'&', ..] => Some(Word::And),
-        [b'|', b'|', ..] => Some(Word::Or),
-        [b'+', ..] => Some(Word::Plus),
-        [b'-', ..] => Some(Word::Minus),
-        [b'*', ..] => Some(Word::Times),
-        [b'/', ..] => Some(Word::Divide),
-        [b'%', ..] => Some(Word::Remainder),
-        [b'(', ..] => Some(Word::OpenRound),
-        [b')', ..] => Some(Word::CloseRound),
-        [b'[', ..] => Some(Word::OpenSquare),
-        [b']', ..] => Some(Word::CloseSquare),
-        [b'{', ..] => Some(Word::OpenCurly),
-        [b'}', ..] => Some(Word::CloseCurly),
-        [b',', ..] => Some(Word::Comma),
-        [b':', ..] => Some(Word::Colon),
-        [b';', ..] => Some(Word::Semicolon),
-        [b'.', ..] => Some(Word::Dot),
-        [b'=', ..] => Some(Word::Assign),
-        [b'<', ..] => Some(Word::Less),
-        [b'>', ..] => Some(Word::Greater),
-        [b'!', ..] => Some(Word::Not),
-        [b'?', ..] => Some(Word::Question),
+        [b'=', b'=', ..] => Some((Word::Equal, 2)),
+        [b'!', b'=', ..] => Some((Word::NotEqual, 2)),
+        [b'<', b'=', ..] => Some((Word::LessOrEqual, 2)),
+        [b'>', b'=', ..] => Some((Word::GreaterOrEqual, 2)),
+        [b'&', b'&', ..] => Some((Word::And, 2)),
+        [b'|', b'|', ..] => Some((Word::Or, 2)),
+        [b'+', ..] => Some((Word::Plus, 1)),
+        [b'-', ..] => Some((Word::Minus, 1)),
+        [b'*', ..] => Some((Word::Times, 1)),
+        [b'/', ..] => Some((Word::Divide, 1)),
+        [b'%', ..] => Some((Word::Remainder, 1)),
+        [b'(', ..] => Some((Word::OpenRound, 1)),
+        [b')', ..] => Some((Word::CloseRound, 1)),
+        [b'[', ..] => Some((Word::OpenSquare, 1)),
+        [b']', ..] => Some((Word::CloseSquare, 1)),
+        [b'{', ..] => Some((Word::OpenCurly, 1)),
+        [b'}', ..] => Some((Word::CloseCurly, 1)),
+        [b',', ..] => Some((Word::Comma, 1)),
+        [b':', ..] => Some((Word::Colon, 1)),
+        [b';', ..] => Some((Word::Semicolon, 1)),
+        [b'.', ..] => Some((Word::Dot, 1)),
+        [b'=', ..] => Some((Word::Assign, 1)),
+        [b'<', ..] => Some((Word::Less, 1)),
+        [b'>', ..] => Some((Word::Greater, 1)),
+        [b'!', ..] => Some((Word::Not, 1)),
+        [b'?', ..] => Some((Word::Question, 1)),
         _ => None,
     }
 }

@@ -4,11 +4,13 @@
 mod characters;
 mod fault;
 mod fixed;
+mod lexer;
 mod number;
 mod quoted;
 mod token;
 mod word;
 
 pub use fault::LexError;
+pub use lexer::tokens;
 pub use token::{Token, TokenKind, Tokens};
 pub use word::Word;

@@ -1,0 +1,84 @@
+ghost use Rattle.std.specs.Prelude.{◌≡◌, ◌+◌, ◌<◌, ◌^◌, List, length, Ok, Err, IfOk, IfErr, IsUtf8};
+ghost use Rattle.nb_lexer.specs.Words.{sign, kind_of};
+ghost use Rattle.nb_lexer.specs.Scan.{Gives, kind_found, front, name_at, name_word, sign_or_stray};
+ghost use Rattle.nb_lexer.specs.Lexes.{AreTokens};
+ghost use Rattle.nb_lexer.specs.Faults.{Refuses};
+
+use crate::characters::{begins_with_digit, begins_with_letter, begins_with_quote, gap_len, name_len};
+use crate::fault::LexError;
+use crate::fixed::{keyword, sign};
+use crate::number::number_at;
+use crate::quoted::quoted_at;
+use crate::token::{Token, TokenKind, Tokens};
+use nb_value::Items;
+use std::alloc::Global;
+
+/// The tokens of a text, from left to right, or its first fault.
+///
+/// It takes time and memory linear in the text's bytes.
+pub fn tokens(alloc: Global, text: &str) -> Result<Tokens, LexError>
+    ensures found { IfOk result (AreTokens text.now) }
+    ensures fault { IfErr result (Refuses text.now) }
+{
+    let bytes = text.as_bytes();
+    let mut found = Items::new(alloc);
+    let mut at = gap_len(bytes);
+    'tokens: while at < bytes.len() {
+        let (kind, end) = token_at(alloc, at, bytes.split_at(at).1)?;
+        found.push(Token {
+            kind,
+            start: at,
+            end,
+        })?;
+        at = end + gap_len(bytes.split_at(end).1);
+    }
+    Ok(found)
+}
+
+/// The token at the front of what stands from the place `at` on, and the place behind it.
+#[tactic(auto, unfolding(crate::specs::Scan::front))]
+fn token_at(alloc: Global, at: usize, text: &[u8]) -> Result<(TokenKind, usize), LexError>
+    requires utf8 { IsUtf8 text.now }
+    requires room { at + length text.now < 2 ^ 63 }
+    ensures { Gives result (kind_found (front at text.now)) }
+{
+    if begins_with_letter(text) {
+        Ok(name_at(at, text))
+    } else if begins_with_digit(text) {
+        number_at(at, text)
+    } else if begins_with_quote(text) {
+        quoted_at(alloc, at, text)
+    } else {
+        sign_at(at, text)
+    }
+}
+
+/// The name or the keyword at the front, and the place behind it.
+fn name_at(at: usize, text: &[u8]) -> (TokenKind, usize)
+    requires { at + length text.now < 2 ^ 63 }
+    ensures { Ok result ≡ kind_found (Ok (name_at at text.now)) }
+{
+    let len = name_len(text);
+    let (name, _) = text.split_at(len);
+    (name_kind(name), at + len)
+}
+
+fn name_kind(name: &[u8]) -> TokenKind
+    ensures { result ≡ kind_of (name_word name.now) }
+{
+    match keyword(name) {
+        Some(_) => TokenKind::Keyword,
+        None => TokenKind::Name,
+    }
+}
+
+/// The sign at the front, and the place behind it.
+fn sign_at(at: usize, text: &[u8]) -> Result<(TokenKind, usize), LexError>
+    requires { at + length text.now < 2 ^ 63 }
+    ensures { Gives result (kind_found (sign_or_stray at (sign text.now))) }
+{
+    match sign(text) {
+        Some((_, len)) => Ok((TokenKind::Sign, at + len)),
+        None => Err(LexError::BadCharacter(at)),
+    }
+}
