@@ -21,15 +21,15 @@ use Rattle.nb_lexer.proofs.Cases.{Case, a_name, a_number, a_text, a_keyword, a_s
 
 -- ---- which of the four it is
 
-begins_letter : (at : ℕ) (text : List ℕ) → begins is_letter text ≡ true → front at text ≡ Ok (name_at at text)
+pub begins_letter : (at : ℕ) (text : List ℕ) → begins is_letter text ≡ true → front at text ≡ Ok (name_at at text)
 unfolding front
 begins_letter at text e = rw e
 
-begins_digit : (at : ℕ) (text : List ℕ) → begins is_digit text ≡ true → front at text ≡ number_at at text
+pub begins_digit : (at : ℕ) (text : List ℕ) → begins is_digit text ≡ true → front at text ≡ number_at at text
 unfolding front
 begins_digit at text e = let l : begins is_letter text ≡ false = begins_not is_digit is_letter digit_no_letter text e in rw (l, e)
 
-begins_quote : (at : ℕ) (text : List ℕ) → begins is_quote text ≡ true → front at text ≡ quoted_word (inside at false (at + 1) (drop 1 text))
+pub begins_quote : (at : ℕ) (text : List ℕ) → begins is_quote text ≡ true → front at text ≡ quoted_word (inside at false (at + 1) (drop 1 text))
 unfolding front
 begins_quote at text e =
     let l : begins is_letter text ≡ false = begins_not is_quote is_letter quote_no_letter text e in
@@ -74,7 +74,7 @@ keyword_complete at w text k stop =
 
 -- ---- numbers
 
-first_digit_nonzero : (b : ℕ) → is_first_digit b ≡ true → (b == 48) ≡ false
+pub first_digit_nonzero : (b : ℕ) → is_first_digit b ≡ true → (b == 48) ≡ false
 first_digit_nonzero b e = grind (arith, nat_tests)
 
 no_digit_either : (text : List ℕ) → begins is_in_name text ≡ false → begins is_digit text ≡ false
@@ -101,7 +101,7 @@ numeral_stops (b ∷ s) text e stop =
     more first all clear =
         ap (λ d. cond d 1 (prefix_len is_digit ((b ∷ s) ++ text))) (first_digit_nonzero b first) ∙ run_stops is_digit (b ∷ s) text all clear
 
-abbrev checked : ℕ → ℕ → ℕ → Bool → Found Word
+abbrev pub checked : ℕ → ℕ → ℕ → Bool → Found Word
 checked at n value more = cond (nat_lt value too_wide) (cond more (Err (BadCharacter (at + n))) (Ok (word.Number (pos value), at + n))) (Err (TooWide at))
 
 pub number_is : (at : ℕ) (s text : List ℕ) → is_numeral s ≡ true → numeral_len (s ++ text) ≡ length s

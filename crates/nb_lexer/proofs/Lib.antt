@@ -6,3 +6,5 @@ pub mod FixedLemmas
 pub mod Cases
 pub mod Spelled
 pub mod Complete
+pub mod FaultLemmas
+pub mod Sound
