@@ -8,3 +8,5 @@ pub mod Spelled
 pub mod Complete
 pub mod FaultLemmas
 pub mod Sound
+pub mod TokenLemmas
+pub mod Reached

@@ -1,16 +1,20 @@
 -- The word at the front of a text that stands at the place at: which it is, and the place behind it; or the fault. No public clause
 -- speaks of this: it is a step between the code and the spelling of words.
-use Rattle.std.specs.Prelude.{◌≡◌, ◌+◌, ℕ, ◌==◌, pos, true, false, List, [], ◌∷◌, ◌++◌, Option, Some, None, Result, Ok, Err, Bool, nat_lt, take, drop, length, unwrap_or, if◌then◌else◌}
+use Rattle.std.specs.Prelude.{◌≡◌, ◌+◌, ◌-◌, ◌<◌, ◌≤◌, ℕ, ◌==◌, pos, true, false, List, [], ◌∷◌, ◌++◌, Option, Some, None, Result, Ok, Err, Bool, nat_lt, take, drop, length, unwrap_or, if◌then◌else◌}
 use Rattle.std.specs.List.{prefix_len}
+use Rattle.std.specs.Str.{IsUtf8}
 use Rattle.std.specs.Str.Parse.{digits_value}
 use Rattle.nb_lexer.specs.declared.word.Word.{Word}
 use Rattle.nb_lexer.specs.declared.word.Word.TheVariants as word
+use Rattle.nb_lexer.specs.declared.token.Token.{Token}
 use Rattle.nb_lexer.specs.declared.token.TokenKind.{TokenKind}
 use Rattle.nb_lexer.specs.declared.fault.LexError.{LexError}
 use Rattle.nb_lexer.specs.declared.fault.LexError.TheVariants.{BadCharacter, OpenText, BadEscape, TooWide, Memory}
 use Rattle.nb_lexer.specs.Characters.{is_digit, is_letter, is_in_name, is_quote, begins}
 use Rattle.nb_lexer.specs.Words.{fixed_text, keyword, sign, kind_of}
 use Rattle.nb_lexer.specs.Spelling.{too_wide}
+use Rattle.nb_lexer.specs.Lexes.{token_of, Takes}
+use Rattle.nb_lexer.specs.Faults.{FaultAt}
 
 abbrev pub Found : Type 0 → Type 0
 Found A = Result (A × ℕ) LexError
@@ -96,6 +100,25 @@ front at text =
     else if begins is_digit text then number_at at text
     else if begins is_quote text then quoted_word (inside at false (at + 1) (drop 1 text))
     else sign_or_stray at (sign text)
+
+-- what stands at the place at, where the text goes on so: this token
+pub record Stands (at : ℕ) (text : List ℕ) (t : Token) : Type 0 where
+  pub word : Word
+  pub behind : List ℕ
+  pub takes : Takes (record { word = word; start = at; end = t.end }) text behind
+  pub token_is : t ≡ token_of (record { word = word; start = at; end = t.end })
+  pub behind_is : drop (t.end - at) text ≡ behind
+  pub further : at < t.end
+  pub within : t.end ≤ at + length text
+  pub utf8 : IsUtf8 behind
+
+-- or no token
+abbrev pub FaultsAt : ℕ → List ℕ → LexError → Type 0
+FaultsAt at text Memory = Unit {0}
+FaultsAt at text (BadCharacter place) = FaultAt at text (BadCharacter place)
+FaultsAt at text (OpenText place) = FaultAt at text (OpenText place)
+FaultsAt at text (BadEscape place) = FaultAt at text (BadEscape place)
+FaultsAt at text (TooWide place) = FaultAt at text (TooWide place)
 
 -- ---- what the code answers
 

@@ -1,6 +1,7 @@
-ghost use Rattle.std.specs.Prelude.{◌≡◌, ◌+◌, ◌<◌, ◌^◌, List, length, Ok, Err, IfOk, IfErr, IsUtf8};
+ghost use Rattle.std.specs.Prelude.{◌≡◌, ◌+◌, ◌<◌, ◌^◌, List, length, false, Ok, Err, IfOk, IfErr, IsUtf8};
+ghost use Rattle.nb_lexer.specs.Characters.{is_gap, begins};
 ghost use Rattle.nb_lexer.specs.Words.{sign, kind_of};
-ghost use Rattle.nb_lexer.specs.Scan.{Gives, kind_found, front, name_at, name_word, sign_or_stray};
+ghost use Rattle.nb_lexer.specs.Scan.{Gives, Stands, FaultsAt, kind_found, front, name_at, name_word, sign_or_stray};
 ghost use Rattle.nb_lexer.specs.Lexes.{AreTokens};
 ghost use Rattle.nb_lexer.specs.Faults.{Refuses};
 
@@ -24,18 +25,32 @@ pub fn tokens(alloc: Global, text: &str) -> Result<Tokens, LexError>
     let mut found = Items::new(alloc);
     let mut at = gap_len(bytes);
     'tokens: while at < bytes.len() {
-        let (kind, end) = token_at(alloc, at, bytes.split_at(at).1)?;
-        found.push(Token {
-            kind,
-            start: at,
-            end,
-        })?;
+        let token = next_token(alloc, at, bytes.split_at(at).1)?;
+        let end = token.end;
+        found.push(token)?;
         at = end + gap_len(bytes.split_at(end).1);
     }
     Ok(found)
 }
 
-/// The token at the front of what stands from the place `at` on, and the place behind it.
+/// The token at the front of what stands from the place `at` on, which isn't a gap.
+fn next_token(alloc: Global, at: usize, text: &[u8]) -> Result<Token, LexError>
+    requires utf8 { IsUtf8 text.now }
+    requires room { at + length text.now < 2 ^ 63 }
+    requires some { 0 < length text.now }
+    requires clear { begins is_gap text.now ≡ false }
+    ensures found { IfOk result (Stands at text.now) }
+    ensures fault { IfErr result (FaultsAt at text.now) }
+{
+    let (kind, end) = token_at(alloc, at, text)?;
+    Ok(Token {
+        kind,
+        start: at,
+        end,
+    })
+}
+
+/// What kind of token stands at the front of what stands from the place `at` on, and the place behind it.
 #[tactic(auto, unfolding(crate::specs::Scan::front))]
 fn token_at(alloc: Global, at: usize, text: &[u8]) -> Result<(TokenKind, usize), LexError>
     requires utf8 { IsUtf8 text.now }
