@@ -183,7 +183,7 @@ text_complete at x s text h =
 not_equals : (b : ℕ) → (b == 61) ≡ false → nat_eq 61 b ≡ false
 not_equals b e = grind (arith, nat_tests)
 
-sign_of : (w : Word) → kind_of w ≡ kind.Sign → (text : List ℕ) → Ends w text → sign (fixed_text w ++ text) ≡ Some w
+pub sign_of : (w : Word) → kind_of w ≡ kind.Sign → (text : List ℕ) → Ends w text → sign (fixed_text w ++ text) ≡ Some w
 unfolding sign
 sign_of word.Assign k [] e = refl
 sign_of word.Assign k (b ∷ text) e = rw (not_equals b e)

@@ -10,3 +10,6 @@ pub mod FaultLemmas
 pub mod Sound
 pub mod TokenLemmas
 pub mod Reached
+pub mod Same
+pub mod Spans
+pub mod WordLemmas

@@ -1,9 +1,11 @@
-ghost use Rattle.std.specs.Prelude.{◌≡◌, ◌+◌, ◌<◌, ◌^◌, List, length, false, Ok, Err, IfOk, IfErr, IsUtf8};
+ghost use Rattle.std.specs.Prelude.{◌≡◌, ◌+◌, ◌<◌, ◌^◌, List, length, false, Ok, Err, IfOk, IfErr, IsUtf8, All};
+ghost use Rattle.nb_lexer.specs.declared.token.Token.{Token};
+ghost use Rattle.nb_lexer.specs.declared.fault.LexError.{LexError};
 ghost use Rattle.nb_lexer.specs.Characters.{is_gap, begins};
 ghost use Rattle.nb_lexer.specs.Words.{sign, kind_of};
 ghost use Rattle.nb_lexer.specs.Scan.{Gives, Stands, FaultsAt, kind_found, front, name_at, name_word, sign_or_stray};
-ghost use Rattle.nb_lexer.specs.Lexes.{AreTokens};
-ghost use Rattle.nb_lexer.specs.Faults.{Refuses};
+ghost use Rattle.nb_lexer.specs.Lexes.{AreTokens, IsSpan, InOrder};
+ghost use Rattle.nb_lexer.specs.Faults.{Refuses, IsFault, UnlessMemory};
 
 use crate::characters::{begins_with_digit, begins_with_letter, begins_with_quote, gap_len, name_len};
 use crate::fault::LexError;
@@ -16,8 +18,23 @@ use std::alloc::Global;
 
 /// The tokens of a text, from left to right, or its first fault.
 ///
-/// It takes time and memory linear in the text's bytes.
+/// Each token's text is the part of the source from its `start` up to below its `end`, where it may be cut. It takes time and memory
+/// linear in the text's bytes, and reads nothing behind a fault.
 pub fn tokens(alloc: Global, text: &str) -> Result<Tokens, LexError>
+    ensures found { IfOk result (AreTokens text.now) }
+    ensures spans { IfOk result (All (IsSpan text.now)) }
+    ensures order { IfOk result (InOrder 0) }
+    ensures fault { IfErr result (Refuses text.now) }
+    // No other tokens are those of the text.
+    ensures only { (ts : List Token) → AreTokens text.now ts → UnlessMemory result (result ≡ Ok ts) }
+    // Its first fault, where it has one, is answered.
+    ensures only_fault { (e : LexError) → IsFault text.now e → UnlessMemory result (result ≡ Err e) }
+{
+    scan(alloc, text)
+}
+
+/// The tokens of a text, or its first fault.
+fn scan(alloc: Global, text: &str) -> Result<Tokens, LexError>
     ensures found { IfOk result (AreTokens text.now) }
     ensures fault { IfErr result (Refuses text.now) }
 {

@@ -9,8 +9,10 @@ mod number;
 mod quoted;
 mod token;
 mod word;
+mod word_list;
 
 pub use fault::LexError;
 pub use lexer::tokens;
 pub use token::{Token, TokenKind, Tokens};
 pub use word::Word;
+pub use word_list::words;
