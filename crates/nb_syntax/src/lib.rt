@@ -3,6 +3,9 @@
 
 mod copy;
 mod copy_stmt;
+mod free;
+mod free_expr;
+mod free_stmt;
 mod generator;
 mod length;
 mod length_expr;
@@ -17,6 +20,7 @@ mod scope;
 mod sums;
 mod tree;
 
+pub use free::{Names, free_names};
 pub use generator::is_generator;
 pub use length::printed_len;
 pub use plain::is_plain;
