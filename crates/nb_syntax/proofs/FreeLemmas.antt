@@ -36,6 +36,10 @@ pub without_inner : (outer inner ns : List Name) → without outer (without inne
 without_inner outer inner [] = refl
 without_inner outer inner (n ∷ ns) = grind (arith, has_name_append n outer inner, without_inner outer inner ns)
 
+pub without_none : (ns : List Name) → without [] ns ≡ ns
+without_none [] = refl
+without_none (n ∷ ns) = ap (λ ms. n ∷ ms) (without_none ns)
+
 -- what is found in one list, and then in another
 pub found_append : (scope found ns ms : List Name) → first_occurrences found (without scope (ns ++ ms)) ≡ first_occurrences (first_occurrences found (without scope ns)) (without scope ms)
 found_append scope found ns ms = rw (without_append scope ns ms, first_occurrences_append found (without scope ns) (without scope ms)) refl

@@ -1,7 +1,7 @@
 //! The free names of a cell.
 
-ghost use Rattle.std.specs.Prelude.{◌≡◌, IfOk};
-ghost use Rattle.nb_syntax.specs.FreeNames.{free};
+ghost use Rattle.std.specs.Prelude.{◌≡◌, IfOk, OnOk};
+ghost use Rattle.nb_syntax.specs.FreeNames.{body_occurrences, first_occurrences, free};
 
 use crate::free_expr::find_expr;
 use crate::free_stmt::find_block;
@@ -22,10 +22,17 @@ pub fn free_names(alloc: Global, cell: &Cell) -> Result<Names, AllocError>
     ensures { IfOk result (λ names. names ≡ free cell.now) }
 {
     let mut names = Items::new(alloc);
-    let mut scope = Scope::new(alloc);
-    match &cell.body {
-        Body::Expr(expr) => find_expr(expr, alloc, &scope, &mut names)?,
-        Body::Block(block) => find_block(block, alloc, &mut scope, &mut names)?,
-    }
+    find_body(&cell.body, alloc, &mut names)?;
     Ok(names)
+}
+
+#[tactic(auto, using(crate::proofs::FreeLemmas::without_none))]
+fn find_body(body: &Body, alloc: Global, names: &mut Names) -> Result<(), AllocError>
+    ensures { OnOk result (names.new ≡ first_occurrences names.old (body_occurrences body.now)) }
+{
+    let mut scope = Scope::new(alloc);
+    match body {
+        Body::Expr(expr) => find_expr(expr, alloc, &scope, names),
+        Body::Block(block) => find_block(block, alloc, &mut scope, names),
+    }
 }

@@ -58,7 +58,7 @@ fn find_stmt<'a>(
         }
         Stmt::For(name, list, body) => {
             find_expr(list, alloc, scope, names)?;
-            find_body(body, alloc, scope, names, name)
+            find_for_body(body, alloc, scope, names, name)
         }
         Stmt::Yield(value) => find_expr(value, alloc, scope, names),
         Stmt::Return(value) => find_expr(value, alloc, scope, names),
@@ -86,7 +86,7 @@ fn find_arms<'a>(
 
 // The block of a `for`, in which its name is in scope.
 #[cycle(find_statements)]
-fn find_body<'a>(
+fn find_for_body<'a>(
     body: &'a Block,
     alloc: Global,
     scope: &mut Scope<'a>,

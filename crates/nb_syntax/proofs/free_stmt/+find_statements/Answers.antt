@@ -10,8 +10,8 @@ find_stmt-returns-in_ok-find_expr-in-While-clause-names t c = rw (c.in-While.is,
 pub find_stmt-returns-in_ok-find_expr-in-For-clause-names : goal.find_stmt-returns-in_ok-find_expr-in-For-clause-names
 find_stmt-returns-in_ok-find_expr-in-For-clause-names t c = rw (c.in-For.is, of_for, found_append) (search rules)
 
-pub find_body-returns-clause-names : goal.find_body-returns-clause-names
-find_body-returns-clause-names t c = rw without_inner (search rules)
+pub find_for_body-returns-clause-names : goal.find_for_body-returns-clause-names
+find_for_body-returns-clause-names t c = rw without_inner (search rules)
 
 pub find_block-returns-clause-names : goal.find_block-returns-clause-names
 find_block-returns-clause-names t c =
