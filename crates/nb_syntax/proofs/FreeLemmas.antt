@@ -1,5 +1,5 @@
 -- The names of trees with several parts, and names of one list after another.
-use Rattle.std.proofs.Common.{◌≡◌, ℕ, zero, suc, ◌+◌, ◌<◌, Bool, true, false, ◌||◌, List, [], ◌∷◌, ◌++◌, ◌∙◌, refl, sym, ap, map, drop, take, ◌≤◌, length, length-take, get_or, add-one, arith, Option, Some, None}
+use Rattle.std.proofs.Common.{◌≡◌, ℕ, zero, suc, ◌+◌, ◌<◌, ◌||◌, List, [], ◌∷◌, ◌++◌, ◌∙◌, refl, sym, ap, map, drop, take, ◌≤◌, length, length-take, get_or, add-one, arith, Some}
 use Rattle.std.proofs.lemmas.List.{take-append-le, drop_all}
 use Rattle.nb_syntax.specs.declared.tree.Sign.{Sign}
 use Rattle.nb_syntax.specs.declared.tree.Expr.{Expr, roll-Expr, map-Expr, fold-roll-Expr}

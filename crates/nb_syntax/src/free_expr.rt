@@ -22,7 +22,9 @@ pub(crate) fn find_expr(
     match expr {
         Expr::Int(_) | Expr::Quoted(_) | Expr::Bool(_) | Expr::Null => Ok(()),
         Expr::Name(name) => note(name, alloc, scope, names),
-        Expr::List(items) => find_exprs(items, alloc, scope, names),
+        Expr::List(parts) | Expr::And(parts) | Expr::Or(parts) => {
+            find_exprs(parts, alloc, scope, names)
+        }
         Expr::Rec(members) => find_members(members, alloc, scope, names),
         Expr::Call(_, args) => find_exprs(args, alloc, scope, names),
         Expr::Fetch(key) => find_expr(key.get(), alloc, scope, names),
@@ -43,8 +45,6 @@ pub(crate) fn find_expr(
             find_expr(left.get(), alloc, scope, names)?;
             find_expr(right.get(), alloc, scope, names)
         }
-        Expr::And(parts) => find_exprs(parts, alloc, scope, names),
-        Expr::Or(parts) => find_exprs(parts, alloc, scope, names),
         Expr::Choose(test, yes, no) => {
             find_expr(test.get(), alloc, scope, names)?;
             find_expr(yes.get(), alloc, scope, names)?;

@@ -60,10 +60,8 @@ fn find_stmt<'a>(
             find_expr(list, alloc, scope, names)?;
             find_for_body(body, alloc, scope, names, name)
         }
-        Stmt::Yield(value) => find_expr(value, alloc, scope, names),
-        Stmt::Return(value) => find_expr(value, alloc, scope, names),
-        Stmt::Throw(value) => find_expr(value, alloc, scope, names),
-        Stmt::Cleanup(value) => find_expr(value, alloc, scope, names),
+        Stmt::Yield(value) | Stmt::Return(value) | Stmt::Throw(value) | Stmt::Cleanup(value) =>
+            find_expr(value, alloc, scope, names),
     }
 }
 

@@ -1,6 +1,5 @@
-use Rattle.std.proofs.Common.{rules, arith, sym, ap, ◌∙◌}
-use Rattle.nb_syntax.specs.declared.tree.Stmt.TheVariants as stmt
-use Rattle.nb_syntax.specs.FreeNames.{occurrences, arm_uses, block_uses, stmt_uses}
+use Rattle.std.proofs.Common.{rules, arith, sym, ◌∙◌}
+use Rattle.nb_syntax.specs.FreeNames.{occurrences, arm_uses, block_uses}
 use Rattle.nb_syntax.proofs.FreeLemmas.{found_append, without_inner, of_else, of_while, of_for, of_arm, of_block, next_part, next_stmt, no_more_stmts, still_begins}
 use Rattle.nb_syntax.proofs.free_stmt.+find_statements.Goals as goal
 
