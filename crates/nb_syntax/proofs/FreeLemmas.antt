@@ -1,5 +1,6 @@
 -- The names of trees with several parts, and names of one list after another.
 use Rattle.std.proofs.Common.{◌≡◌, ℕ, zero, suc, ◌+◌, ◌<◌, ◌||◌, List, [], ◌∷◌, ◌++◌, ◌∙◌, refl, sym, ap, map, drop, take, ◌≤◌, length, length-take, get_or, add-one, arith, Some}
+use mathlib.Core.Logic.{◌⊎◌, ⊎_elim}
 use Rattle.std.proofs.lemmas.List.{take-append-le, drop_all}
 use Rattle.nb_syntax.specs.declared.tree.Sign.{Sign}
 use Rattle.nb_syntax.specs.declared.tree.Expr.{Expr, roll-Expr, map-Expr, fold-roll-Expr}
@@ -52,11 +53,14 @@ is_step = fold-roll-Expr (List Name) (List Name) (List Name) (List Name) expr_st
 pub of_path : (e : Expr) (steps : List PathStep) → occurrences (expr.Path e steps) ≡ occurrences e ++ joined (map step_occurrences steps)
 of_path e steps = ap occurrences (sym (rolls-Path e steps)) ∙ is_step (layer.Path e steps)
 
-pub of_product : (e : Expr) (os : List Operand) → occurrences (expr.Product e os) ≡ occurrences e ++ joined (map operand_occurrences os)
+of_product : (e : Expr) (os : List Operand) → occurrences (expr.Product e os) ≡ occurrences e ++ joined (map operand_occurrences os)
 of_product e os = ap occurrences (sym (rolls-Product e os)) ∙ is_step (layer.Product e os)
 
-pub of_sum : (e : Expr) (os : List Operand) → occurrences (expr.Sum e os) ≡ occurrences e ++ joined (map operand_occurrences os)
+of_sum : (e : Expr) (os : List Operand) → occurrences (expr.Sum e os) ≡ occurrences e ++ joined (map operand_occurrences os)
 of_sum e os = ap occurrences (sym (rolls-Sum e os)) ∙ is_step (layer.Sum e os)
+
+pub of_operator : (x e : Expr) (os : List Operand) → (x ≡ expr.Product e os) ⊎ (x ≡ expr.Sum e os) → occurrences x ≡ occurrences e ++ joined (map operand_occurrences os)
+of_operator x e os h = ⊎_elim (λ is. ap occurrences is ∙ of_product e os) (λ is. ap occurrences is ∙ of_sum e os) h
 
 pub of_compare : (s : Sign) (a b : Expr) → occurrences (expr.Compare s a b) ≡ occurrences a ++ occurrences b
 of_compare s a b = ap occurrences (sym (rolls-Compare s a b)) ∙ is_step (layer.Compare s a b)

@@ -33,11 +33,7 @@ pub(crate) fn find_expr(
             find_steps(steps, alloc, scope, names)
         }
         Expr::Unary(_, part) => find_expr(part.get(), alloc, scope, names),
-        Expr::Product(first, more) => {
-            find_expr(first.get(), alloc, scope, names)?;
-            find_operands(more, alloc, scope, names)
-        }
-        Expr::Sum(first, more) => {
+        Expr::Product(first, more) | Expr::Sum(first, more) => {
             find_expr(first.get(), alloc, scope, names)?;
             find_operands(more, alloc, scope, names)
         }

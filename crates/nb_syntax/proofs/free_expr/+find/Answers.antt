@@ -1,16 +1,13 @@
 use Rattle.std.proofs.Common.{rules, arith, sym, ◌∙◌}
 use Rattle.nb_syntax.specs.FreeNames.{occurrences, step_occurrences, member_occurrences, operand_occurrences}
-use Rattle.nb_syntax.proofs.FreeLemmas.{found_append, of_path, of_product, of_sum, of_compare, of_choose, of_member, of_operand, next_part}
+use Rattle.nb_syntax.proofs.FreeLemmas.{found_append, of_path, of_operator, of_compare, of_choose, of_member, of_operand, next_part}
 use Rattle.nb_syntax.proofs.free_expr.+find.Goals as goal
 
 pub find_expr-returns-in_ok-find_expr-in-Path : goal.find_expr-returns-in_ok-find_expr-in-Path
 find_expr-returns-in_ok-find_expr-in-Path t c = rw (c.in-Path.is, of_path, found_append) (search rules)
 
 pub find_expr-returns-in_ok-find_expr-in-Product : goal.find_expr-returns-in_ok-find_expr-in-Product
-find_expr-returns-in_ok-find_expr-in-Product t c = rw (c.in-Product.is, of_product, found_append) (search rules)
-
-pub find_expr-returns-in_ok-find_expr-in-Sum : goal.find_expr-returns-in_ok-find_expr-in-Sum
-find_expr-returns-in_ok-find_expr-in-Sum t c = rw (c.in-Sum.is, of_sum, found_append) (search rules)
+find_expr-returns-in_ok-find_expr-in-Product t c = rw (of_operator _ _ _ c.in-Product.is, found_append) (search rules)
 
 pub find_expr-returns-in_ok-find_expr-in-Compare : goal.find_expr-returns-in_ok-find_expr-in-Compare
 find_expr-returns-in_ok-find_expr-in-Compare t c = rw (c.in-Compare.is, of_compare, found_append) (search rules)
