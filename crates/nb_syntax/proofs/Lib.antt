@@ -1,3 +1,4 @@
 pub mod PlainLemmas
 pub mod Escapes
 pub mod Places
+pub mod FreeLemmas

@@ -1,8 +1,13 @@
 //! The trees of cells: their copies, their printed text and their free names.
 #![tactic(auto)]
 
+#[cfg(test)]
+mod builders;
 mod copy;
 mod copy_stmt;
+mod free;
+mod free_expr;
+mod free_stmt;
 mod generator;
 mod length;
 mod length_expr;
@@ -15,8 +20,11 @@ mod printing;
 mod quoted;
 mod scope;
 mod sums;
+#[cfg(test)]
+mod tests;
 mod tree;
 
+pub use free::{Names, free_names};
 pub use generator::is_generator;
 pub use length::printed_len;
 pub use plain::is_plain;

@@ -2,12 +2,13 @@
 
 ghost use Rattle.std.specs.Prelude.{◌≡◌, ◌++◌, ◌==◌, OnOk, [], map, string_bytes, codes, if◌then◌else◌};
 ghost use Rattle.std.specs.Fmt.{signed_decimal};
+ghost use Rattle.nb_value.specs.Function.{function_name};
 ghost use Rattle.nb_syntax.specs.Print.{bare, printed, placed, operand, operand_text, operands_text, parts_text, separated, member_text, path_step_text, steps_text, sign_text};
 
 use crate::level::{AND, COMPARISON, EXPR, OR, POSTFIX, PRIMARY, PRODUCT, SUM, UNARY, level};
 use crate::quoted::push_quoted;
 use crate::tree::{Expr, Member, Operand, PathStep, Sign};
-use nb_value::Items;
+use nb_value::{Function, Items};
 use std::alloc::AllocError;
 
 /// Adds the expression's text, in brackets where its level is lower than the one asked for.
@@ -36,10 +37,7 @@ fn push_bare(out: &mut String, expr: &Expr) -> Result<(), AllocError>
         Expr::Name(name) => out.push_str(name.as_str()),
         Expr::List(items) => push_enclosed(out, "[", items, "]"),
         Expr::Rec(members) => push_record(out, members),
-        Expr::Call(function, args) => {
-            out.push_str(function.name())?;
-            push_enclosed(out, "(", args, ")")
-        }
+        Expr::Call(function, args) => push_call(out, *function, args),
         Expr::Fetch(key) => push_fetch(out, key.get()),
         Expr::Path(root, steps) => {
             push_expr(out, root.get(), PRIMARY)?;
@@ -80,6 +78,14 @@ fn push_enclosed(
     out.push_str(before)?;
     push_parts(out, parts, ", ", EXPR)?;
     out.push_str(after)
+}
+
+#[cycle(print)]
+fn push_call(out: &mut String, function: Function, args: &Items<Expr>) -> Result<(), AllocError>
+    ensures { OnOk result (string_bytes out.new ≡ string_bytes out.old ++ function_name function ++ codes "(" ++ parts_text (codes ", ") 0 (map bare args.now) ++ codes ")") }
+{
+    out.push_str(function.name())?;
+    push_enclosed(out, "(", args, ")")
 }
 
 #[cycle(print)]

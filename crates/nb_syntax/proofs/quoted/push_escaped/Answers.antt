@@ -1,7 +1,6 @@
-use Rattle.std.proofs.Common.{◌≡◌, ◌++◌, append_assoc}
-use Rattle.std.specs.Prelude.{string_bytes, encode_utf8}
+use Rattle.std.proofs.Common.{append_assoc}
+use Rattle.std.specs.Prelude.{encode_utf8}
 use Rattle.std.specs.Str.Iter.{chars_rest}
-use Rattle.nb_syntax.specs.Print.{escaped}
 use Rattle.nb_syntax.proofs.Escapes.{escaped-append}
 use Rattle.nb_syntax.proofs.quoted.push_escaped.Goals as goal
 
