@@ -1,4 +1,5 @@
 mod SortLemmas
+mod ExtremeLemmas
 mod RangeLemmas
 mod FuelLemmas
 mod PartLemmas

@@ -1,13 +1,14 @@
 -- The parts of a text up to its first separator and behind it.
-use Rattle.std.proofs.Common.{◌≡◌, ◌≢◌, ℕ, zero, suc, ◌-◌, ◌<◌, ◌≤◌, List, [], ◌∷◌, ◌++◌, length, take, drop, map, refl, ap, ◌∙◌, sym, Bool, true, false, nat_eq, arith, Option, Some, None, MatchOption, append_assoc}
-use Rattle.std.proofs.Math.Seq.{take-append_seam}
+use mathlib.Core.Logic.{◌⊎◌, inl, inr}
+use Rattle.std.proofs.Common.{◌≡◌, ◌≢◌, ℕ, zero, suc, ◌-◌, ◌<◌, ◌≤◌, List, [], ◌∷◌, ◌++◌, length, take, drop, map, refl, ap, ◌∙◌, sym, Bool, true, false, nat_eq, arith, Option, Some, None, MatchOption, append_assoc, length-append}
+use Rattle.std.proofs.Math.Seq.{take-append_seam, drop-append_seam, drop-nil}
 use Rattle.std.proofs.lemmas.List.{take-append-drop}
 use Rattle.std.specs.List.{starts_with, onto_first}
 use Rattle.std.specs.Str.Pattern.{FindsText, LacksTextAt, IsSplitAtFirstMatch}
 use Rattle.std.specs.Cmp.Lexicographic.{bytes_decides}
 use Rattle.nb_value.specs.declared.value.Value.{Value}
 use Rattle.nb_value.specs.declared.value.Value.TheVariants as V
-use Rattle.nb_builtins.specs.Parts.{parts_after, parts}
+use Rattle.nb_builtins.specs.Parts.{parts_after, parts, IsSplit}
 
 -- the parts that are still to come
 abbrev pub parts_left : List ℕ → Bool → List ℕ → List (List ℕ)
@@ -70,3 +71,53 @@ pub parts_step : (items whole : List Value) (separator text part rest : List ℕ
     → items ++ map V.Text (parts_left separator before text) ≡ whole → (items ++ V.Text part ∷ []) ++ map V.Text (parts_left separator live rest) ≡ whole
 parts_step items whole separator text part rest true live h cut e = append_assoc items (V.Text part ∷ []) (map V.Text (parts_left separator live rest)) ∙ ap (λ ps. items ++ map V.Text ps) (sym cut) ∙ e
 parts_step items whole separator text part rest false live h cut e = absurd (cc)
+
+-- ---- where the separator stands first
+
+abbrev Found : List ℕ → List ℕ → Type 0
+Found separator text = (t : List ℕ) × (rest : List ℕ) × (text ≡ t ++ (separator ++ rest)) × ((k : ℕ) → k < length t → LacksTextAt separator text k)
+
+look_on : (separator text : List ℕ) (b : ℕ) → ((rest : List ℕ) → b ∷ text ≢ separator ++ rest) → Found separator text ⊎ ((k : ℕ) → LacksTextAt separator text k) → Found separator (b ∷ text) ⊎ ((k : ℕ) → LacksTextAt separator (b ∷ text) k)
+look_on separator text b lacks (inl f) = inl (b ∷ f.0, f.1, ap (λ xs. b ∷ xs) f.2, below)
+  where
+    below : (k : ℕ) → k < length (b ∷ f.0) → LacksTextAt separator (b ∷ text) k
+    below zero h = lacks
+    below (suc k) h = f.3 k (omega arith)
+look_on separator text b lacks (inr none) = inr at
+  where
+    at : (k : ℕ) → LacksTextAt separator (b ∷ text) k
+    at zero = lacks
+    at (suc k) = none k
+
+look_here : (separator text : List ℕ) (b : ℕ) (here : Bool) → starts_with nat_eq (b ∷ text) separator ≡ here → Found separator text ⊎ ((k : ℕ) → LacksTextAt separator text k) → Found separator (b ∷ text) ⊎ ((k : ℕ) → LacksTextAt separator (b ∷ text) k)
+look_here separator text b true e later =
+    let front : separator ≡ take (length separator) (b ∷ text) = (bytes_decides separator (take (length separator) (b ∷ text))).0 e in
+    inl ([], drop (length separator) (b ∷ text), sym (take-append-drop (length separator) (b ∷ text)) ∙ ap (λ xs. xs ++ drop (length separator) (b ∷ text)) (sym front), λ k h. absurd (omega arith))
+look_here separator text b false e later = look_on separator text b (λ rest f. absurd (cc (begins (b ∷ text) separator rest f))) later
+
+look : (c : ℕ) (cs text : List ℕ) → Found (c ∷ cs) text ⊎ ((k : ℕ) → LacksTextAt (c ∷ cs) text k)
+look c cs [] = inr (λ k rest e. absurd (cc (drop-nil {A = ℕ} k)))
+look c cs (b ∷ bs) = look_here (c ∷ cs) bs b (starts_with nat_eq (b ∷ bs) (c ∷ cs)) refl (look c cs bs)
+
+with_first : (separator text t rest : List ℕ) (ps : List (List ℕ)) → text ≡ t ++ (separator ++ rest) → ((k : ℕ) → k < length t → LacksTextAt separator text k) → IsSplit separator rest ps → IsSplit separator text (t ∷ ps)
+with_first separator text t rest [] e lacks s = absurd s
+with_first separator text t rest (u ∷ ts) e lacks s = (rest, e, lacks, s)
+
+behind_front : (separator text t rest : List ℕ) → text ≡ t ++ (separator ++ rest) → drop (length t) text ≡ separator ++ rest
+behind_front separator text t rest e = ap (drop (length t)) e ∙ drop-append_seam t (separator ++ rest)
+
+front_of : (separator text t rest : List ℕ) → text ≡ t ++ (separator ++ rest) → take (length t) text ≡ t
+front_of separator text t rest e = ap (take (length t)) e ∙ take-append_seam t (separator ++ rest)
+
+splits_within : (c : ℕ) (cs : List ℕ) (n : ℕ) (text : List ℕ) → length text < n → Found (c ∷ cs) text ⊎ ((k : ℕ) → LacksTextAt (c ∷ cs) text k) → IsSplit (c ∷ cs) text (parts (c ∷ cs) text)
+splits_within c cs zero text h f = absurd (omega arith)
+splits_within c cs (suc n) text h (inr none) = rw (only_part (c ∷ cs) text (λ i l. none i)) (refl, none)
+splits_within c cs (suc n) text h (inl f) =
+    let shorter : length f.1 < n = omega (arith, simp length-append at (ap length f.2)) in
+    let first : parts (c ∷ cs) text ≡ f.0 ∷ parts (c ∷ cs) f.1 =
+    first_part c cs f.1 (length f.0) text f.3 (behind_front (c ∷ cs) text f.0 f.1 f.2) ∙ ap (λ t. t ∷ parts (c ∷ cs) f.1) (front_of (c ∷ cs) text f.0 f.1 f.2) in
+    rw first (with_first (c ∷ cs) text f.0 f.1 (parts (c ∷ cs) f.1) f.2 f.3 (splits_within c cs n f.1 shorter (look c cs f.1)))
+
+pub splits : (separator text : List ℕ) → 0 < length separator → IsSplit separator text (parts separator text)
+splits [] text h = absurd (omega arith)
+splits (c ∷ cs) text h = splits_within c cs (suc (length text)) text (omega arith) (look c cs text)

@@ -1,5 +1,5 @@
 -- `min` and `max`: the least and the greatest of a list of numbers or of a list of texts.
-use Rattle.std.specs.Prelude.{Bool, true, false, ◌||◌, List, [], ◌∷◌, Ok, if◌then◌else◌}
+use Rattle.std.specs.Prelude.{◌≡◌, All, Contains, Bool, true, false, ◌||◌, List, [], ◌∷◌, Ok, if◌then◌else◌}
 use Rattle.std.specs.List.{list_all, best_of}
 use Rattle.std.specs.Ordering.{is_lt, is_gt}
 use Rattle.nb_value.specs.declared.value.Value.{Value, out-Value}
@@ -37,6 +37,10 @@ are_alike vs = list_all is_int vs || list_all is_text vs
 abbrev pub extreme_of : Function → (Value → Value → Bool) → List Value → Called Value
 extreme_of f beats [] = out_of_range f
 extreme_of f beats (v ∷ vs) = if are_alike (v ∷ vs) then Ok (best_of beats v vs) else wrong_kind f
+
+-- it is an item, and no item beats it
+abbrev pub IsExtreme : (Value → Value → Bool) → List Value → Value → Type 0
+IsExtreme beats vs v = Contains vs v × All (λ w. beats w v ≡ false) vs
 
 abbrev pub extreme_in : Function → (Value → Value → Bool) → Value-F Value → Called Value
 extreme_in f beats (Value-F.List vs) = extreme_of f beats vs

@@ -1,6 +1,7 @@
 -- `split` and `join`: a text as parts with a separator between them.
-use Rattle.std.specs.Prelude.{ℕ, zero, suc, ◌-◌, ◌==◌, nat_eq, List, [], ◌∷◌, ◌++◌, length, map, Ok, if◌then◌else◌}
+use Rattle.std.specs.Prelude.{◌≡◌, ◌<◌, ℕ, zero, suc, ◌-◌, ◌==◌, nat_eq, List, [], ◌∷◌, ◌++◌, length, map, Ok, if◌then◌else◌}
 use Rattle.std.specs.List.{starts_with, onto_first}
+use Rattle.std.specs.Str.Pattern.{LacksTextAt}
 use Rattle.nb_value.specs.declared.value.Value.{Value, out-Value}
 use Rattle.nb_value.specs.declared.value.Value.TheOpen.{Value-F}
 use Rattle.nb_value.specs.declared.value.Value.TheVariants as V
@@ -17,6 +18,12 @@ parts_after separator (suc n) (b ∷ bs) = parts_after separator n bs
 -- the parts between the occurrences of a separator that isn't empty
 abbrev pub parts : List ℕ → List ℕ → List (List ℕ)
 parts separator text = parts_after separator 0 text
+
+-- the parts that a text is cut into: each ends where the separator stands first in what is left, and the last has none
+abbrev pub IsSplit : List ℕ → List ℕ → List (List ℕ) → Type 0
+IsSplit separator text [] = ⊥
+IsSplit separator text (t ∷ []) = (t ≡ text) × ((k : ℕ) → LacksTextAt separator text k)
+IsSplit separator text (t ∷ u ∷ ts) = (rest : List ℕ) × (text ≡ t ++ (separator ++ rest)) × ((k : ℕ) → k < length t → LacksTextAt separator text k) × IsSplit separator rest (u ∷ ts)
 
 -- texts with a separator before each
 abbrev pub behind : List ℕ → List (List ℕ) → List ℕ

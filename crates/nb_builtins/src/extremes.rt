@@ -1,7 +1,7 @@
-ghost use Rattle.std.specs.Prelude.{◌≡◌};
+ghost use Rattle.std.specs.Prelude.{◌≡◌, ◌∷◌};
 ghost use Rattle.std.specs.List.{best_of, list_all};
 ghost use Rattle.nb_builtins.specs.Calls.{Answers};
-ghost use Rattle.nb_builtins.specs.Extremes.{is_int, is_text, is_below, is_above, are_alike, min_of, max_of};
+ghost use Rattle.nb_builtins.specs.Extremes.{is_int, is_text, is_below, is_above, are_alike, IsExtreme, min_of, max_of};
 
 use crate::errors::{out_of_range, wrong_kind};
 use crate::fail::ApplyFail;
@@ -26,7 +26,8 @@ pub fn min(alloc: Global, value: &Value) -> Result<Value, ApplyFail>
 }
 
 fn least<'a>(first: &'a Value, others: &'a [Value]) -> &'a Value
-    ensures { result.now ≡ best_of is_below first.now others.now }
+    ensures value { result.now ≡ best_of is_below first.now others.now }
+    ensures least { IsExtreme is_below (first.now ∷ others.now) result.now }
 {
     let mut best = first;
     for item in others {
@@ -54,7 +55,8 @@ pub fn max(alloc: Global, value: &Value) -> Result<Value, ApplyFail>
 }
 
 fn greatest<'a>(first: &'a Value, others: &'a [Value]) -> &'a Value
-    ensures { result.now ≡ best_of is_above first.now others.now }
+    ensures value { result.now ≡ best_of is_above first.now others.now }
+    ensures greatest { IsExtreme is_above (first.now ∷ others.now) result.now }
 {
     let mut best = first;
     for item in others {

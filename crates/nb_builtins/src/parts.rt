@@ -1,7 +1,7 @@
 ghost use Rattle.std.specs.Prelude.{◌≡◌, ◌<◌, length, map, IfOk};
 ghost use Rattle.nb_value.specs.declared.value.Value.TheVariants as variant;
 ghost use Rattle.nb_builtins.specs.Calls.{Answers};
-ghost use Rattle.nb_builtins.specs.Parts.{parts, split_of};
+ghost use Rattle.nb_builtins.specs.Parts.{IsSplit, parts, split_of};
 
 use crate::errors::{out_of_range, wrong_kind};
 use crate::fail::ApplyFail;
@@ -23,9 +23,11 @@ pub fn split(alloc: Global, value: &Value, separator: &Value) -> Result<Value, A
     Ok(Value::List(parts))
 }
 
+#[tactic(auto, using(crate::proofs::PartLemmas::splits))]
 fn parts(alloc: Global, text: &str, separator: &str) -> Result<Items<Value>, AllocError>
     requires { 0 < length separator.now }
-    ensures { IfOk result (λ items. items ≡ map variant.Text (parts separator.now text.now)) }
+    ensures value { IfOk result (λ items. items ≡ map variant.Text (parts separator.now text.now)) }
+    ensures split { IsSplit separator.now text.now (parts separator.now text.now) }
 {
     let mut items = Items::new(alloc);
     for part in text.split(separator) {

@@ -1,7 +1,7 @@
 //! Calls of each function at values that were worked out by hand: the arguments as a list in JSON, and the value in JSON
 //! or the error's kind and detail.
 use crate::{ApplyFail, apply};
-use nb_value::{Function, Text, Value};
+use nb_value::{Function, Items, Text, Value};
 use std::alloc::{AllocError, Global};
 use std::process::Abort;
 use std::test::Fail;
@@ -311,6 +311,21 @@ fn pays_for_long_ranges(rt: HostRuntime) -> Result<(), Fail> {
     assert_eq!(rt; items.len(), 999_992);
     assert_eq!(rt; items.get(999_991), Some(&Value::Int(999_991)));
     let unpaid = apply(alloc, Function::Range, &args, 999_993);
+    assert!(rt; matches!(unpaid, Err(ApplyFail::Error(_))));
+    Ok(())
+}
+
+// A text of 65,535,000,000 bytes is refused before it is made.
+#[test]
+fn makes_no_text_that_is_not_paid(rt: HostRuntime) -> Result<(), Fail> {
+    let alloc = rt.alloc();
+    let mut items = Items::new(alloc);
+    for _ in 0..1_000_001 {
+        items.push(Value::Text(Text::from_str(alloc, "")?))?;
+    }
+    let separator = Text::from_string(format!(in alloc; "{:65535}", "")?);
+    let args = [Value::List(items), Value::Text(separator)];
+    let unpaid = apply(alloc, Function::Join, &args, 65_535_000_001);
     assert!(rt; matches!(unpaid, Err(ApplyFail::Error(_))));
     Ok(())
 }
