@@ -6,8 +6,7 @@ use Rattle.nb_grammar.specs.declared.fault.Fault.{Fault}
 use Rattle.nb_grammar.specs.declared.fault.Fault.TheVariants.{Unexpected, Ended, TooDeep}
 use Rattle.nb_grammar.specs.Reading as r
 use Rattle.nb_grammar.specs.Reading.{Read, ◌>>=◌, many, rounds, onward, inside_of, Inside, Inner, fault, Gives}
-use Rattle.nb_grammar.specs.Grammar as g
-use Rattle.nb_grammar.specs.Grammar.{ExprWay, OrWay, OrParts, AndWay, AndParts, CompareWay, SumWay, Summands, ProductWay, Factors, UnaryWay, PostfixWay, Steps, PrimaryWay, Items, Pairs, PairWay, KeyWay, BlockWay, Stmts, StmtWay, ElseIfs, ElseWay, BodyWay, CellWay, CompareSign, SumSign, ProductSign, UnarySign}
+use Rattle.nb_grammar.specs.Trees as trees
 use Rattle.nb_grammar.specs.Law as law
 use Rattle.nb_grammar.specs.Law.{Spells, Comes, Continues, Splits, HasRoom, IsFault, IsRead, left_after, Turn, turn, counted, onto}
 use Rattle.nb_grammar.specs.Machine as m
@@ -36,7 +35,7 @@ accepts room ws h = each (r.cell (inside_of room) ws) refl (sym (cell_runs room 
 
 pub again : (n room : ℕ) (ws : List Word) (c : Cell) → Spells n ws c → n ≤ room → r.cell (inside_of room) ws ≡ Ok (c, [])
 again n room ws c s le =
-    let d : g.cell_depth s.way ≤ room = omega (arith, s.deep) in
+    let d : trees.cell_depth s.way ≤ room = omega (arith, s.deep) in
     ap (λ h. r.cell (inside_of room) h) (sym s.words) ∙ cell_again room s.way d ∙ ap (λ h. Ok (h, [])) s.tree_is
 
 spelled_runs : (n room : ℕ) (ws : List Word) (c : Cell) → Spells n ws c → n ≤ room → run ws room begin ≡ None

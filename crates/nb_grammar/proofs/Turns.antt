@@ -6,6 +6,7 @@ use Rattle.nb_grammar.specs.declared.fault.Fault.{Fault}
 use Rattle.nb_grammar.specs.Reading as r
 use Rattle.nb_grammar.specs.Reading.{Read, ◌>>=◌, many, rounds, onward, inside_of, Inner}
 use Rattle.nb_grammar.specs.Grammar as g
+use Rattle.nb_grammar.specs.Trees as trees
 use Rattle.nb_grammar.specs.Grammar.{ExprWay, OrWay, OrParts, AndWay, AndParts, CompareWay, SumWay, Summands, ProductWay, Factors, UnaryWay, PostfixWay, Steps, PrimaryWay, Items, Pairs, PairWay, KeyWay, BlockWay, Stmts, StmtWay, ElseIfs, ElseWay, BodyWay, CellWay, CompareSign, SumSign, ProductSign}
 
 -- The words are these of some way to spell the value, and then the rest.
@@ -119,7 +120,7 @@ name_ok (_ ∷ ws) x e = cc
 pub record Keyed (ws : List Word) (x : List ℕ × List Word) : Type 0 where
   pub way : KeyWay
   pub words_are : g.key_word way ∷ x.1 ≡ ws
-  pub text_is : g.key_text way ≡ x.0
+  pub text_is : trees.key_text way ≡ x.0
 
 pub key_ok : (ws : List Word) (x : List ℕ × List Word) → r.key ws ≡ Ok x → Keyed ws x
 key_ok (word.Name n ∷ ws) x e = let b = second_is (n, ws) x e in record { way = g.name_key n; words_are = cc; text_is = first_is (n, ws) x e }
