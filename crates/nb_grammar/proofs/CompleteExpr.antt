@@ -11,10 +11,10 @@ use Rattle.nb_syntax.specs.declared.tree.PathStep.TheVariants as path
 use Rattle.nb_syntax.specs.declared.tree.Operand.{Operand}
 use Rattle.nb_grammar.specs.Words.{product_sign, sum_sign, compare_sign}
 use Rattle.nb_grammar.specs.Reading as r
-use Rattle.nb_grammar.specs.Reading.{Read, ◌>>=◌, many, rounds, onward, inside_of, Inside, Inner, fault, Gives}
+use Rattle.nb_grammar.specs.Reading.{Read, ◌>>=◌, many, rounds, inside_of, Inside}
 use Rattle.nb_grammar.specs.Grammar as g
 use Rattle.nb_grammar.specs.Trees as trees
-use Rattle.nb_grammar.specs.Grammar.{ExprWay, OrWay, OrParts, AndWay, AndParts, CompareWay, SumWay, Summands, ProductWay, Factors, UnaryWay, PostfixWay, Steps, PrimaryWay, Items, Pairs, PairWay, KeyWay, BlockWay, Stmts, StmtWay, ElseIfs, ElseWay, BodyWay, CellWay, CompareSign, SumSign, ProductSign, UnarySign}
+use Rattle.nb_grammar.specs.Grammar.{ExprWay, OrParts, AndParts, Summands, Factors, Steps, CompareSign, SumSign, ProductSign}
 use Rattle.nb_grammar.proofs.SoundPrimary.{Within}
 use Rattle.nb_grammar.proofs.Grows.{expr_grows, and_grows, compare_grows, product_grows, unary_grows}
 use Rattle.nb_grammar.proofs.Begins.{Stops, stops_more, unary_begun, Complete, CompleteExpr, CompleteInner, none_again, turn_again}

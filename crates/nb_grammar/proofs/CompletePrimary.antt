@@ -9,10 +9,10 @@ use Rattle.nb_syntax.specs.declared.tree.Expr.TheVariants as tree
 use Rattle.nb_syntax.specs.declared.tree.Member.{Member}
 use Rattle.nb_grammar.specs.Words.{called}
 use Rattle.nb_grammar.specs.Reading as r
-use Rattle.nb_grammar.specs.Reading.{Read, ◌>>=◌, many, rounds, onward, inside_of, Inside, Inner, fault, Gives}
+use Rattle.nb_grammar.specs.Reading.{Read, ◌>>=◌, many, rounds, inside_of, Inside}
 use Rattle.nb_grammar.specs.Grammar as g
 use Rattle.nb_grammar.specs.Trees as trees
-use Rattle.nb_grammar.specs.Grammar.{ExprWay, OrWay, OrParts, AndWay, AndParts, CompareWay, SumWay, Summands, ProductWay, Factors, UnaryWay, PostfixWay, Steps, PrimaryWay, Items, Pairs, PairWay, KeyWay, BlockWay, Stmts, StmtWay, ElseIfs, ElseWay, BodyWay, CellWay, CompareSign, SumSign, ProductSign, UnarySign}
+use Rattle.nb_grammar.specs.Grammar.{ExprWay, Items, Pairs, PairWay, KeyWay}
 use Rattle.nb_grammar.proofs.Names.{name_called}
 use Rattle.nb_grammar.proofs.SoundPrimary.{Within, count}
 use Rattle.nb_grammar.proofs.Grows.{expr_grows, pair_grows}

@@ -8,10 +8,10 @@ use Rattle.nb_syntax.specs.declared.tree.Arm.{Arm}
 use Rattle.nb_syntax.specs.declared.tree.Stmt.{Stmt}
 use Rattle.nb_syntax.specs.declared.tree.Stmt.TheVariants as stmt
 use Rattle.nb_grammar.specs.Reading as r
-use Rattle.nb_grammar.specs.Reading.{Read, ◌>>=◌, many, rounds, onward, inside_of, Inside, Inner, fault, Gives}
+use Rattle.nb_grammar.specs.Reading.{Read, ◌>>=◌, many, rounds, inside_of, Inside}
 use Rattle.nb_grammar.specs.Grammar as g
 use Rattle.nb_grammar.specs.Trees as trees
-use Rattle.nb_grammar.specs.Grammar.{ExprWay, OrWay, OrParts, AndWay, AndParts, CompareWay, SumWay, Summands, ProductWay, Factors, UnaryWay, PostfixWay, Steps, PrimaryWay, Items, Pairs, PairWay, KeyWay, BlockWay, Stmts, StmtWay, ElseIfs, ElseWay, BodyWay, CellWay, CompareSign, SumSign, ProductSign, UnarySign}
+use Rattle.nb_grammar.specs.Grammar.{ExprWay, BlockWay, Stmts, StmtWay, ElseIfs, ElseWay}
 use Rattle.nb_grammar.proofs.SoundPrimary.{Within}
 use Rattle.nb_grammar.proofs.Grows.{expr_grows, block_grows, else_ifs_grows, else_grows}
 use Rattle.nb_grammar.proofs.Begins.{CompleteExpr, CompleteStmts, CompleteInner, none_again, turn_again}

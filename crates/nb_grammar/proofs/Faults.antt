@@ -5,12 +5,12 @@ use Rattle.nb_syntax.specs.declared.tree.Cell.{Cell}
 use Rattle.nb_grammar.specs.declared.fault.Fault.{Fault}
 use Rattle.nb_grammar.specs.declared.fault.Fault.TheVariants.{Unexpected, Ended, TooDeep}
 use Rattle.nb_grammar.specs.Reading as r
-use Rattle.nb_grammar.specs.Reading.{Read, ◌>>=◌, many, rounds, onward, inside_of, Inside, Inner, fault, Gives}
+use Rattle.nb_grammar.specs.Reading.{Read, ◌>>=◌, inside_of}
 use Rattle.nb_grammar.specs.Trees as trees
 use Rattle.nb_grammar.specs.Law as law
-use Rattle.nb_grammar.specs.Law.{Spells, Comes, Continues, Splits, HasRoom, IsFault, IsRead, left_after, Turn, turn, counted, onto}
+use Rattle.nb_grammar.specs.Law.{Spells, Continues, IsFault, left_after, Turn, turn, counted, onto}
 use Rattle.nb_grammar.specs.Machine as m
-use Rattle.nb_grammar.specs.Machine.{Sym, Level, run, want, arguments, more_steps, more_factors, more_summands, more_compare, more_and, more_or, more_choice, first_item, more_items, first_pair, more_pairs, need_name, need_key, need_let, need_of, need_open_round, need_close_round, need_comma, need_colon, need_semicolon, need_assign, need_close_square, more_stmts, more_else, after_else, body_brace, brace_name, cell_name, tails, more_arguments, feed}
+use Rattle.nb_grammar.specs.Machine.{Sym, run, feed}
 use Rattle.nb_grammar.proofs.SoundStmts.{within}
 use Rattle.nb_grammar.proofs.Sound.{cell_ok}
 use Rattle.nb_grammar.proofs.Complete.{cell_again}

@@ -13,9 +13,9 @@ use Rattle.nb_syntax.specs.declared.tree.Block.{Block}
 use Rattle.nb_syntax.specs.declared.tree.Arm.{Arm}
 use Rattle.nb_grammar.specs.Grammar as g
 use Rattle.nb_grammar.specs.Trees as trees
-use Rattle.nb_grammar.specs.Grammar.{ExprWay, OrWay, OrParts, AndWay, AndParts, CompareWay, SumWay, Summands, ProductWay, Factors, UnaryWay, PostfixWay, Steps, PrimaryWay, Items, Pairs, PairWay, KeyWay, BlockWay, Stmts, StmtWay, ElseIfs, ElseWay, BodyWay, CellWay, CompareSign, SumSign, ProductSign, UnarySign}
+use Rattle.nb_grammar.specs.Grammar.{ExprWay, OrWay, OrParts, AndWay, AndParts, CompareWay, SumWay, Summands, ProductWay, Factors, UnaryWay, PostfixWay, Steps, PrimaryWay, Items, Pairs, PairWay, KeyWay, BlockWay, Stmts, StmtWay, ElseIfs, ElseWay, BodyWay, CellWay}
 use Rattle.nb_grammar.specs.Forms as f
-use Rattle.nb_grammar.specs.Forms.{Forms, of_primary, of_expr, of_or, of_and, of_compare, of_sum, of_product, of_unary, of_postfix, as_compare, as_sum, as_product, as_unary, or_parts_of, and_parts_of, summands_of, factors_of, steps_of, items_of, pairs_of, list_of, record_of, truth_of, call_of, expr_step, path_step, member_step, operand_step, forms, step_forms, member_forms, operand_forms, stmts_of, else_ifs_of, else_of, stmt_step, arm_step, block_step, stmt_form, arm_form, block_form, body_form, cell_form, printed}
+use Rattle.nb_grammar.specs.Forms.{Forms, of_primary, of_expr, of_or, of_and, of_compare, of_sum, of_product, of_unary, of_postfix, as_compare, as_sum, as_product, as_unary, or_parts_of, and_parts_of, summands_of, factors_of, steps_of, items_of, pairs_of, list_of, record_of, call_of, forms, step_forms, member_forms, operand_forms, stmts_of, else_ifs_of, else_of, stmt_form, arm_form, block_form, body_form, cell_form}
 use Rattle.nb_grammar.proofs.EachWord.{expr_each, or_each, or_parts_each, and_each, and_parts_each, compare_each, sum_each, summands_each, product_each, factors_each, unary_each, postfix_each, steps_each, primary_each, items_each, pairs_each, pair_each, block_each, stmts_each, stmt_each, else_ifs_each, else_each, body_each, cell_each}
 use Rattle.nb_grammar.proofs.FormLaws.{forms-Int, forms-Quoted, forms-Bool, forms-Name, forms-List, forms-Rec, forms-Call, forms-Fetch, forms-Path, forms-Unary, forms-Product, forms-Sum, forms-Compare, forms-And, forms-Or, forms-Choose, forms-Null, step_forms-Field, step_forms-At, member_is, operand_is, stmt_form-Let, stmt_form-Assign, stmt_form-While, stmt_form-For, stmt_form-Yield, stmt_form-Return, stmt_form-Throw, stmt_form-Cleanup, other_form, stmt_form-If, arm_is, block_is}
 use Rattle.nb_grammar.proofs.FormExpr.{as_compare_again, as_sum_again, as_product_again, as_unary_again}

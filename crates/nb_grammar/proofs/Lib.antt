@@ -18,7 +18,7 @@ pub mod RunsCell
 pub mod Finish
 pub mod Walk
 pub mod Faults
-pub mod Laws
+pub mod Viable
 pub mod FormLaws
 pub mod FormExpr
 pub mod FormCell

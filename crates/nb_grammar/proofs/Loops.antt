@@ -8,10 +8,10 @@ use Rattle.nb_syntax.specs.declared.tree.Member.{Member}
 use Rattle.nb_syntax.specs.declared.tree.Arm.{Arm}
 use Rattle.nb_grammar.specs.Words.{product_sign, sum_sign}
 use Rattle.nb_grammar.specs.Reading as r
-use Rattle.nb_grammar.specs.Reading.{Read, ◌>>=◌, many, rounds, onward, inside_of, Inside, Inner, fault, Gives}
+use Rattle.nb_grammar.specs.Reading.{Read, ◌>>=◌, many, rounds, onward, inside_of}
 use Rattle.nb_grammar.specs.Grammar as g
 use Rattle.nb_grammar.specs.Trees as trees
-use Rattle.nb_grammar.specs.Grammar.{ExprWay, OrWay, OrParts, AndWay, AndParts, CompareWay, SumWay, Summands, ProductWay, Factors, UnaryWay, PostfixWay, Steps, PrimaryWay, Items, Pairs, PairWay, KeyWay, BlockWay, Stmts, StmtWay, ElseIfs, ElseWay, BodyWay, CellWay, CompareSign, SumSign, ProductSign, UnarySign}
+use Rattle.nb_grammar.specs.Grammar.{OrParts, AndParts, Steps, Items, Pairs, ElseIfs}
 use Rattle.nb_grammar.proofs.SoundPrimary.{item_ok, next_pair_ok}
 use Rattle.nb_grammar.proofs.SoundExpr.{step_ok, unary_ok, operand_ok, product_ok, and_part_ok, or_part_ok}
 use Rattle.nb_grammar.proofs.SoundStmts.{else_if_ok, next_stmt_ok, sound, within}

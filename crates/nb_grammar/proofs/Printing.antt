@@ -3,11 +3,10 @@ use Rattle.std.proofs.Common.{◌≡◌, ℕ, refl, sym, subst, List, [], Ok, ar
 use Rattle.nb_lexer.specs.declared.word.Word.{Word}
 use Rattle.nb_syntax.specs.declared.tree.Cell.{Cell}
 use Rattle.nb_grammar.specs.Reading as r
-use Rattle.nb_grammar.specs.Reading.{Read, ◌>>=◌, many, rounds, onward, inside_of, Inside, Inner, fault, Gives}
 use Rattle.nb_grammar.specs.Trees as trees
 use Rattle.nb_grammar.specs.Law.{Spells}
 use Rattle.nb_grammar.specs.Forms.{cell_form, printed}
-use Rattle.nb_grammar.proofs.Laws.{spelled_read}
+use Rattle.nb_grammar.proofs.Viable.{only}
 use Rattle.nb_grammar.proofs.EachWord.{Each, cell_split, cell_join}
 use Rattle.nb_grammar.proofs.FormCell.{cell_fine}
 use Rattle.nb_grammar.proofs.FormDepth.{cell_low}
@@ -21,7 +20,7 @@ printed_again room ws c s =
 
 -- What is printed of a cell that was read is read as that cell.
 pub printed_read : (room : ℕ) (ws : List Word) (c : Cell) → Spells room ws c → r.whole room (printed c) ≡ Ok c
-printed_read room ws c s = spelled_read room (printed c) c (printed_again room ws c s)
+printed_read room ws c s = only room (printed c) (Ok c) (printed_again room ws c s)
 
 -- What holds of each word that was read holds of each that is printed.
 pub printed_each : (P : Word → Type 0) → Keeps P → (room : ℕ) (ws : List Word) (c : Cell) → Spells room ws c → Each P ws → Each P (printed c)

@@ -11,9 +11,9 @@ use Rattle.nb_syntax.specs.declared.tree.Operand.{Operand}
 use Rattle.nb_grammar.specs.declared.fault.Fault.{Fault}
 use Rattle.nb_grammar.specs.Words.{product_sign, sum_sign, called}
 use Rattle.nb_grammar.specs.Reading as r
-use Rattle.nb_grammar.specs.Reading.{Read, ◌>>=◌, many, rounds, onward, inside_of, Inside, Inner, fault, Gives}
+use Rattle.nb_grammar.specs.Reading.{Read, ◌>>=◌, rounds, onward, inside_of}
 use Rattle.nb_grammar.specs.Machine as m
-use Rattle.nb_grammar.specs.Machine.{Sym, Level, run, want, arguments, more_steps, more_factors, more_summands, more_compare, more_and, more_or, more_choice, first_item, more_items, first_pair, more_pairs, need_name, need_key, need_let, need_of, need_open_round, need_close_round, need_comma, need_colon, need_semicolon, need_assign, need_close_square, more_stmts, more_else, after_else, body_brace, brace_name, cell_name, behind, tails, more_arguments}
+use Rattle.nb_grammar.specs.Machine.{Sym, run, want, more_steps, more_factors, more_summands, more_compare, more_and, more_or, more_choice, need_colon, need_close_square, tails}
 use Rattle.nb_grammar.proofs.SoundPrimary.{Within}
 use Rattle.nb_grammar.proofs.Loops.{factor_falls, summand_falls, step_falls, and_part_falls, or_part_falls}
 use Rattle.nb_grammar.proofs.Runs.{ends, ends_then, Runs, rounds_goes, RunsExpr, RunsInner, close_square_runs, colon_runs, name_runs}

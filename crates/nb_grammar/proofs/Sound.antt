@@ -8,10 +8,10 @@ use Rattle.nb_syntax.specs.declared.tree.Body.{Body}
 use Rattle.nb_syntax.specs.declared.tree.Body.TheVariants as body
 use Rattle.nb_syntax.specs.declared.tree.Cell.{Cell}
 use Rattle.nb_grammar.specs.Reading as r
-use Rattle.nb_grammar.specs.Reading.{Read, ◌>>=◌, many, rounds, onward, inside_of, Inner}
+use Rattle.nb_grammar.specs.Reading.{inside_of}
 use Rattle.nb_grammar.specs.Grammar as g
 use Rattle.nb_grammar.specs.Trees as trees
-use Rattle.nb_grammar.specs.Grammar.{ExprWay, OrWay, OrParts, AndWay, AndParts, CompareWay, SumWay, Summands, ProductWay, Factors, UnaryWay, PostfixWay, Steps, PrimaryWay, Items, Pairs, PairWay, KeyWay, BlockWay, Stmts, StmtWay, ElseIfs, ElseWay, BodyWay, CellWay, CompareSign, SumSign, ProductSign}
+use Rattle.nb_grammar.specs.Grammar.{Stmts}
 use Rattle.nb_grammar.proofs.Turns.{Spelled, bind_ok, Sound, first_is, second_is}
 use Rattle.nb_grammar.proofs.SoundPrimary.{SoundExpr, SoundInner, Within, opened_ok}
 use Rattle.nb_grammar.proofs.SoundExpr.{expr_ok}

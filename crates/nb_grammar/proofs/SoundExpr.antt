@@ -10,10 +10,10 @@ use Rattle.nb_syntax.specs.declared.tree.PathStep.TheVariants as path
 use Rattle.nb_syntax.specs.declared.tree.Operand.{Operand}
 use Rattle.nb_grammar.specs.Words.{product_sign, sum_sign, compare_sign}
 use Rattle.nb_grammar.specs.Reading as r
-use Rattle.nb_grammar.specs.Reading.{Read, ◌>>=◌, many, rounds, onward, inside_of, Inner}
+use Rattle.nb_grammar.specs.Reading.{Read, ◌>>=◌, rounds, inside_of}
 use Rattle.nb_grammar.specs.Grammar as g
 use Rattle.nb_grammar.specs.Trees as trees
-use Rattle.nb_grammar.specs.Grammar.{ExprWay, OrWay, OrParts, AndWay, AndParts, CompareWay, SumWay, Summands, ProductWay, Factors, UnaryWay, PostfixWay, Steps, PrimaryWay, Items, Pairs, PairWay, KeyWay, BlockWay, Stmts, StmtWay, ElseIfs, ElseWay, BodyWay, CellWay, CompareSign, SumSign, ProductSign}
+use Rattle.nb_grammar.specs.Grammar.{OrWay, SumWay, CompareSign, SumSign, ProductSign}
 use Rattle.nb_grammar.proofs.Turns.{Spelled, bind_ok, Sound, first_is, second_is, Turns, Stays, rounds_ok, close_square_ok, colon_ok, name_ok}
 use Rattle.nb_grammar.proofs.SoundPrimary.{SoundExpr, SoundInner, Within, opened_ok, primary_ok}
 

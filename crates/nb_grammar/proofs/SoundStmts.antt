@@ -8,10 +8,10 @@ use Rattle.nb_syntax.specs.declared.tree.Arm.{Arm}
 use Rattle.nb_syntax.specs.declared.tree.Stmt.{Stmt}
 use Rattle.nb_syntax.specs.declared.tree.Stmt.TheVariants as stmt
 use Rattle.nb_grammar.specs.Reading as r
-use Rattle.nb_grammar.specs.Reading.{Read, ◌>>=◌, many, rounds, onward, inside_of, Inner}
+use Rattle.nb_grammar.specs.Reading.{Read, ◌>>=◌, rounds, inside_of}
 use Rattle.nb_grammar.specs.Grammar as g
 use Rattle.nb_grammar.specs.Trees as trees
-use Rattle.nb_grammar.specs.Grammar.{ExprWay, OrWay, OrParts, AndWay, AndParts, CompareWay, SumWay, Summands, ProductWay, Factors, UnaryWay, PostfixWay, Steps, PrimaryWay, Items, Pairs, PairWay, KeyWay, BlockWay, Stmts, StmtWay, ElseIfs, ElseWay, BodyWay, CellWay, CompareSign, SumSign, ProductSign}
+use Rattle.nb_grammar.specs.Grammar.{ExprWay, BlockWay}
 use Rattle.nb_grammar.proofs.Turns.{Spelled, bind_ok, Sound, first_is, second_is, Turns, Stays, rounds_ok, close_round_ok, close_curly_ok, semicolon_ok, assign_ok, let_word_ok, of_word_ok, name_ok}
 use Rattle.nb_grammar.proofs.SoundPrimary.{SoundExpr, SoundStmts, SoundInner, Within, opened_ok, bracketed_ok}
 use Rattle.nb_grammar.proofs.SoundExpr.{expr_ok}

@@ -4,10 +4,10 @@ use Rattle.nb_lexer.specs.declared.word.Word.{Word}
 use Rattle.nb_lexer.specs.declared.word.Word.TheVariants as word
 use Rattle.nb_grammar.specs.declared.fault.Fault.{Fault}
 use Rattle.nb_grammar.specs.Reading as r
-use Rattle.nb_grammar.specs.Reading.{Read, ◌>>=◌, many, rounds, onward, inside_of, Inner}
+use Rattle.nb_grammar.specs.Reading.{Read, ◌>>=◌, many, rounds, onward}
 use Rattle.nb_grammar.specs.Grammar as g
 use Rattle.nb_grammar.specs.Trees as trees
-use Rattle.nb_grammar.specs.Grammar.{ExprWay, OrWay, OrParts, AndWay, AndParts, CompareWay, SumWay, Summands, ProductWay, Factors, UnaryWay, PostfixWay, Steps, PrimaryWay, Items, Pairs, PairWay, KeyWay, BlockWay, Stmts, StmtWay, ElseIfs, ElseWay, BodyWay, CellWay, CompareSign, SumSign, ProductSign}
+use Rattle.nb_grammar.specs.Grammar.{KeyWay}
 
 -- The words are these of some way to spell the value, and then the rest.
 pub record Spelled {D T : Type 0} (words : D → List Word → List Word) (tree : D → T) (depth : D → ℕ) (room : ℕ) (ws : List Word) (value : T) (rest : List Word) : Type 0 where

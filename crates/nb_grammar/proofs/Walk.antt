@@ -4,9 +4,9 @@ use Rattle.nb_lexer.specs.declared.word.Word.{Word}
 use Rattle.nb_grammar.specs.declared.fault.Fault.{Fault}
 use Rattle.nb_grammar.specs.declared.fault.Fault.TheVariants.{Unexpected, Ended, TooDeep}
 use Rattle.nb_grammar.specs.Law as law
-use Rattle.nb_grammar.specs.Law.{Spells, Comes, Continues, Splits, HasRoom, IsFault, IsRead, left_after, Turn, turn, counted, onto}
+use Rattle.nb_grammar.specs.Law.{Splits, left_after, Turn, turn, counted, onto}
 use Rattle.nb_grammar.specs.Machine as m
-use Rattle.nb_grammar.specs.Machine.{Sym, Level, run, want, arguments, more_steps, more_factors, more_summands, more_compare, more_and, more_or, more_choice, first_item, more_items, first_pair, more_pairs, need_name, need_key, need_let, need_of, need_open_round, need_close_round, need_comma, need_colon, need_semicolon, need_assign, need_close_square, more_stmts, more_else, after_else, body_brace, brace_name, cell_name, tails, more_arguments, feed}
+use Rattle.nb_grammar.specs.Machine.{Sym, run, feed}
 
 -- the machine over the first words
 abbrev pub walk : List Word → ℕ → List Sym → Option (ℕ × List Sym)
