@@ -15,7 +15,7 @@ use Rattle.nb_grammar.specs.Grammar as g
 use Rattle.nb_grammar.specs.Trees as trees
 use Rattle.nb_grammar.specs.Grammar.{ExprWay, Items}
 use Rattle.nb_grammar.proofs.Names.{called_name, some_arguments, few_arguments}
-use Rattle.nb_grammar.proofs.Turns.{Spelled, bind_ok, Sound, first_is, second_is, Turns, Stays, rounds_ok, close_round_ok, close_square_ok, close_curly_ok, comma_ok, colon_ok, key_ok}
+use Rattle.nb_grammar.proofs.Turns.{Spelled, respelled, bind_ok, Sound, first_is, second_is, Turns, Stays, rounds_ok, close_round_ok, close_square_ok, close_curly_ok, comma_ok, colon_ok, key_ok}
 
 abbrev pub SoundExpr : ℕ → Type 0
 SoundExpr room = Sound (r.expr (inside_of room)) g.expr_words trees.expr_tree trees.expr_depth room
@@ -111,8 +111,9 @@ call_ok room sound f ws x e =
     let z = call_way (suc room) f v.way s.way x.1 n (omega (arith, v.deep, s.deep)) in
     let w : g.expr_words v.way (g.items_words s.way (word.CloseRound ∷ x.1)) ≡ ws = cc (v.words_are, s.words_are, k, u) in
     let l : trees.expr_tree v.way ∷ trees.items_tree s.way ≡ b.0.0 = ap (λ h. h ∷ trees.items_tree s.way) v.tree_is ∙ sym s.tree_is in
-    record { way = z.way; words_are = z.words_are ∙ ap (λ h. word.Name (function_name f) ∷ word.OpenRound ∷ h) w;
-        tree_is = z.tree_is ∙ ap (λ h. tree.Call f h) l ∙ t; deep = z.deep }
+    respelled g.primary_words trees.primary_tree trees.primary_depth (suc room)
+        (word.Name (function_name f) ∷ word.OpenRound ∷ g.expr_words v.way (g.items_words s.way (word.CloseRound ∷ x.1))) (word.Name (function_name f) ∷ word.OpenRound ∷ ws)
+        (tree.Call f (trees.expr_tree v.way ∷ trees.items_tree s.way)) x.0 x.1 z (ap (λ h. word.Name (function_name f) ∷ word.OpenRound ∷ h) w) (ap (λ h. tree.Call f h) l ∙ t)
 
 pub named_ok : (room : ℕ) → Within SoundInner room → (n : List ℕ) (o : Option Function) → called n ≡ o → (ws : List Word) (x : Expr × List Word)
     → r.named (inside_of room) n o ws ≡ Ok x → Spelled g.primary_words trees.primary_tree trees.primary_depth room (word.Name n ∷ ws) x.0 x.1

@@ -16,6 +16,11 @@ pub record Spelled {D T : Type 0} (words : D → List Word → List Word) (tree 
   pub tree_is : tree way ≡ value
   pub deep : depth way ≤ room
 
+-- The same with equal words and an equal value.
+pub respelled : {D T : Type 0} (words : D → List Word → List Word) (tree : D → T) (depth : D → ℕ) (room : ℕ) (ws more : List Word) (value other : T) (rest : List Word)
+    → Spelled words tree depth room ws value rest → ws ≡ more → value ≡ other → Spelled words tree depth room more other rest
+respelled words tree depth room ws more value other rest s a b = record { way = s.way; words_are = s.words_are ∙ a; tree_is = s.tree_is ∙ b; deep = s.deep }
+
 pub bind_ok : {A B : Type 0} (m : Result A Fault) (f : A → Result B Fault) (y : B) → (m >>= f) ≡ Ok y → (x : A) × (m ≡ Ok x) × (f x ≡ Ok y)
 bind_ok (Ok x) f y e = (x, refl, e)
 bind_ok (Err d) f y e = cc
