@@ -26,3 +26,4 @@ pub mod FormDepth
 pub mod EachWord
 pub mod FormWords
 pub mod Printing
+pub mod Braces
