@@ -47,7 +47,7 @@ steps_again room within (g.field x more) (suc n) done rest deep stops enough =
     let ws : List Word = g.steps_words more rest in
     let fuel : length ws ≤ n = omega arith in
     turn_again (r.step (inside_of room)) n done (word.Dot ∷ word.Name x ∷ ws) ws rest (path.Field x) (trees.steps_tree more) refl
-        (steps_again room within more n (done ++ path.Field x ∷ []) rest deep stops fuel)
+    (steps_again room within more n (done ++ path.Field x ∷ []) rest deep stops fuel)
 steps_again room within (g.at e more) zero done rest deep stops enough = absurd (omega arith)
 steps_again room within (g.at e more) (suc n) done rest deep stops enough =
     let ws : List Word = g.steps_words more rest in
@@ -55,8 +55,8 @@ steps_again room within (g.at e more) (suc n) done rest deep stops enough =
     let d1 : suc (trees.expr_depth e) ≤ room = omega arith in
     let d2 : trees.steps_depth more ≤ room = omega arith in
     turn_again (r.step (inside_of room)) n done (word.OpenSquare ∷ g.expr_words e (word.CloseSquare ∷ ws)) ws rest (path.At (trees.expr_tree e)) (trees.steps_tree more)
-        (at_again room within e ws d1)
-        (steps_again room within more n (done ++ path.At (trees.expr_tree e) ∷ []) rest d2 stops fuel)
+    (at_again room within e ws d1)
+    (steps_again room within more n (done ++ path.At (trees.expr_tree e) ∷ []) rest d2 stops fuel)
 
 pub postfix_again : (room : ℕ) → Within CompleteInner room → Complete (r.postfix (inside_of room)) g.postfix_words trees.postfix_tree trees.postfix_depth room 7
 postfix_again room within (g.postfix p more) rest deep stops =
@@ -134,8 +134,8 @@ factors_again room within (g.factor s u more) (suc n) done rest deep stops enoug
     let d1 : trees.unary_depth u ≤ room = omega arith in
     let d2 : trees.factors_depth more ≤ room = omega arith in
     turn_again (r.operand product_sign p) n done (g.product_word s ∷ g.unary_words u ws) ws rest o (trees.factors_tree more)
-        (operand_go product_sign p (g.product_word s) (trees.product_operator s) (g.unary_words u ws) ws (trees.unary_tree u) (product_word_is s) (unary_again room within u ws d1 (factors_stop more rest stops)))
-        (factors_again room within more n (done ++ o ∷ []) rest d2 stops fuel)
+    (operand_go product_sign p (g.product_word s) (trees.product_operator s) (g.unary_words u ws) ws (trees.unary_tree u) (product_word_is s) (unary_again room within u ws d1 (factors_stop more rest stops)))
+    (factors_again room within more n (done ++ o ∷ []) rest d2 stops fuel)
 
 pub product_again : (room : ℕ) → Within CompleteInner room → Complete (r.product (inside_of room)) g.product_words trees.product_tree trees.product_depth room 6
 product_again room within (g.product u more) rest deep stops =
@@ -158,8 +158,8 @@ summands_again room within (g.summand s u more) (suc n) done rest deep stops eno
     let d1 : trees.product_depth u ≤ room = omega arith in
     let d2 : trees.summands_depth more ≤ room = omega arith in
     turn_again (r.operand sum_sign p) n done (g.sum_word s ∷ g.product_words u ws) ws rest o (trees.summands_tree more)
-        (operand_go sum_sign p (g.sum_word s) (trees.sum_operator s) (g.product_words u ws) ws (trees.product_tree u) (sum_word_is s) (product_again room within u ws d1 (summands_stop more rest stops)))
-        (summands_again room within more n (done ++ o ∷ []) rest d2 stops fuel)
+    (operand_go sum_sign p (g.sum_word s) (trees.sum_operator s) (g.product_words u ws) ws (trees.product_tree u) (sum_word_is s) (product_again room within u ws d1 (summands_stop more rest stops)))
+    (summands_again room within more n (done ++ o ∷ []) rest d2 stops fuel)
 
 pub sum_again : (room : ℕ) → Within CompleteInner room → Complete (r.sum (inside_of room)) g.sum_words trees.sum_tree trees.sum_depth room 5
 sum_again room within (g.sum u more) rest deep stops =
@@ -220,8 +220,8 @@ and_parts_again room within (g.and_part a more) (suc n) done rest deep stops eno
     let d1 : trees.compare_depth a ≤ room = omega arith in
     let d2 : trees.and_parts_depth more ≤ room = omega arith in
     turn_again (r.and_part (inside_of room)) n done (word.And ∷ g.compare_words a ws) ws rest (trees.compare_tree a) (trees.and_parts_tree more)
-        (ap (λ m. m >>= (λ x. Ok (Some x.0, x.1))) (compare_again room within a ws d1 (and_parts_stop more rest stops)))
-        (and_parts_again room within more n (done ++ trees.compare_tree a ∷ []) rest d2 stops fuel)
+    (ap (λ m. m >>= (λ x. Ok (Some x.0, x.1))) (compare_again room within a ws d1 (and_parts_stop more rest stops)))
+    (and_parts_again room within more n (done ++ trees.compare_tree a ∷ []) rest d2 stops fuel)
 
 pub and_again : (room : ℕ) → Within CompleteInner room → Complete (r.and (inside_of room)) g.and_words trees.and_tree trees.and_depth room 3
 and_again room within (g.and u more) rest deep stops =
@@ -250,8 +250,8 @@ or_parts_again room within (g.or_part a more) (suc n) done rest deep stops enoug
     let d1 : trees.and_depth a ≤ room = omega arith in
     let d2 : trees.or_parts_depth more ≤ room = omega arith in
     turn_again (r.or_part (inside_of room)) n done (word.Or ∷ g.and_words a ws) ws rest (trees.and_tree a) (trees.or_parts_tree more)
-        (ap (λ m. m >>= (λ x. Ok (Some x.0, x.1))) (and_again room within a ws d1 (or_parts_stop more rest stops)))
-        (or_parts_again room within more n (done ++ trees.and_tree a ∷ []) rest d2 stops fuel)
+    (ap (λ m. m >>= (λ x. Ok (Some x.0, x.1))) (and_again room within a ws d1 (or_parts_stop more rest stops)))
+    (or_parts_again room within more n (done ++ trees.and_tree a ∷ []) rest d2 stops fuel)
 
 pub or_again : (room : ℕ) → Within CompleteInner room → Complete (r.or (inside_of room)) g.or_words trees.or_tree trees.or_depth room 2
 or_again room within (g.or u more) rest deep stops =

@@ -61,7 +61,7 @@ call_again room whole f e d rest d1 d2 is =
     let p : List Word → Read Expr = r.expr (inside_of room) in
     let k : count d ≡ arity f - 1 = omega (arith, is) in
     ap (λ m. m >>= (λ first. r.arguments p (arity f - 1) (first.0 ∷ []) first.1 >>= (λ all. r.close_round all.1 >>= (λ rest. Ok (tree.Call f all.0, rest)))))
-        (whole e ws d1 (arguments_stop d rest))
+    (whole e ws d1 (arguments_stop d rest))
     ∙ ap (λ m. m >>= (λ all. r.close_round all.1 >>= (λ rest. Ok (tree.Call f all.0, rest)))) (arguments_again room whole d (arity f - 1) (trees.expr_tree e ∷ []) rest d2 k)
 
 pub called_again : (room : ℕ) → Within CompleteInner room → (f : Function) (e : ExprWay) (d : Items) (rest : List Word)
@@ -91,8 +91,8 @@ items_again room whole (g.item e more) (suc n) done rest deep enough =
     let d2 : trees.items_depth more ≤ room = omega arith in
     let fuel : length ws ≤ n = omega (arith, expr_grows e ws) in
     turn_again (r.item (r.expr (inside_of room))) n done (word.Comma ∷ g.expr_words e ws) ws (word.CloseSquare ∷ rest) (trees.expr_tree e) (trees.items_tree more)
-        (ap (λ m. m >>= (λ x. Ok (Some x.0, x.1))) (whole e ws d1 (items_stop more rest)))
-        (items_again room whole more n (done ++ trees.expr_tree e ∷ []) rest d2 fuel)
+    (ap (λ m. m >>= (λ x. Ok (Some x.0, x.1))) (whole e ws d1 (items_stop more rest)))
+    (items_again room whole more n (done ++ trees.expr_tree e ∷ []) rest d2 fuel)
 
 pub list_again : (room : ℕ) → CompleteExpr room → (e : ExprWay) (more : Items) (rest : List Word) → trees.expr_depth e ≤ room → trees.items_depth more ≤ room
     → r.items (r.expr (inside_of room)) (g.expr_words e (g.items_words more (word.CloseSquare ∷ rest))) ≡ Ok (tree.List (trees.expr_tree e ∷ trees.items_tree more), rest)
@@ -129,8 +129,8 @@ pairs_again room whole (g.next_pair p more) (suc n) done rest deep enough =
     let d2 : trees.pairs_depth more ≤ room = omega arith in
     let fuel : length ws ≤ n = omega (arith, pair_grows p ws) in
     turn_again (r.next_pair (r.expr (inside_of room))) n done (word.Comma ∷ g.pair_words p ws) ws (word.CloseCurly ∷ rest) (trees.pair_tree p) (trees.pairs_tree more)
-        (ap (λ m. m >>= (λ y. Ok (Some y.0, y.1))) (pair_again room whole p ws d1 (pairs_stop more rest)))
-        (pairs_again room whole more n (done ++ trees.pair_tree p ∷ []) rest d2 fuel)
+    (ap (λ m. m >>= (λ y. Ok (Some y.0, y.1))) (pair_again room whole p ws d1 (pairs_stop more rest)))
+    (pairs_again room whole more n (done ++ trees.pair_tree p ∷ []) rest d2 fuel)
 
 pub record_again : (room : ℕ) → CompleteExpr room → (p : PairWay) (more : Pairs) (rest : List Word) → trees.pair_depth p ≤ room → trees.pairs_depth more ≤ room
     → r.pairs (r.expr (inside_of room)) (g.pair_words p (g.pairs_words more (word.CloseCurly ∷ rest))) ≡ Ok (tree.Rec (trees.pair_tree p ∷ trees.pairs_tree more), rest)

@@ -94,8 +94,8 @@ else_ifs_again room within (g.else_if e b more) other (suc n) done rest deep no_
     let d1 : max (suc (trees.expr_depth e)) (trees.block_depth b) ≤ room = omega arith in
     let d2 : trees.else_ifs_depth more ≤ room = omega arith in
     turn_again (r.else_if (inside_of room)) n done (word.Else ∷ word.If ∷ word.OpenRound ∷ g.expr_words e (word.CloseRound ∷ g.block_words b ws)) ws end (arm_tree e b) (trees.else_ifs_tree more)
-        (ap (λ m. m >>= (λ a. Ok (Some a.0, a.1))) (arm_again room within e b ws d1))
-        (else_ifs_again room within more other n (done ++ arm_tree e b ∷ []) rest d2 no_else fuel)
+    (ap (λ m. m >>= (λ a. Ok (Some a.0, a.1))) (arm_again room within e b ws d1))
+    (else_ifs_again room within more other n (done ++ arm_tree e b ∷ []) rest d2 no_else fuel)
 
 if_again : (room : ℕ) → Within CompleteInner room → (e : ExprWay) (b : BlockWay) (more : ElseIfs) (other : ElseWay) (rest : List Word)
     → max (max (suc (trees.expr_depth e)) (trees.block_depth b)) (max (trees.else_ifs_depth more) (trees.else_depth other)) ≤ room → NotElse rest
@@ -108,9 +108,9 @@ if_again room within e b more other rest deep no_else =
     let d2 : trees.else_ifs_depth more ≤ room = omega arith in
     let d3 : trees.else_depth other ≤ room = omega arith in
     ap (λ m. m >>= (λ first. rounds (r.else_if (inside_of room)) (first.0 ∷ []) first.1 >>= (λ arms. r.otherwise (inside_of room) arms.1 >>= (λ other. Ok (stmt.If arms.0 other.0, other.1)))))
-        (arm_again room within e b ws d1)
+    (arm_again room within e b ws d1)
     ∙ ap (λ m. m >>= (λ arms. r.otherwise (inside_of room) arms.1 >>= (λ other. Ok (stmt.If arms.0 other.0, other.1))))
-        (else_ifs_again room within more other (suc (length ws)) (arm_tree e b ∷ []) rest d2 no_else (omega arith))
+    (else_ifs_again room within more other (suc (length ws)) (arm_tree e b ∷ []) rest d2 no_else (omega arith))
     ∙ ap (λ m. m >>= (λ other. Ok (stmt.If (arm_tree e b ∷ trees.else_ifs_tree more) other.0, other.1))) (otherwise_again room within other rest d3 no_else)
 
 each_again : (room : ℕ) → Within CompleteInner room → (x : List ℕ) (e : ExprWay) (rest : List Word) → suc (trees.expr_depth e) ≤ room
@@ -165,8 +165,8 @@ stmts_loop room within whole (g.next_stmt s more) (suc n) done rest deep enough 
     let d1 : trees.stmt_depth s ≤ room = omega arith in
     let d2 : trees.stmts_depth more ≤ room = omega arith in
     turn_again (r.next_stmt (inside_of room)) n done (g.stmt_words s ws) ws (word.CloseCurly ∷ rest) (trees.stmt_tree s) (trees.stmts_tree more)
-        (stmt_again room within whole s ws d1 (stmts_not_else more rest))
-        (stmts_loop room within whole more n (done ++ trees.stmt_tree s ∷ []) rest d2 fuel)
+    (stmt_again room within whole s ws d1 (stmts_not_else more rest))
+    (stmts_loop room within whole more n (done ++ trees.stmt_tree s ∷ []) rest d2 fuel)
 
 pub stmts_again : (room : ℕ) → Within CompleteInner room → CompleteExpr room → CompleteStmts room
 stmts_again room within whole d rest deep =

@@ -61,8 +61,8 @@ goes_on room before w x new e f =
     let c = counted_with (turn w) x.0 (opens_in new) in
     let b : run (before ++ w ∷ rest) (room + k) begin ≡ run (w ∷ rest) (x.0 + k) x.1 = run_walk before (room + k) begin (x.0 + k, x.1) (walk_more before room begin x k e) (w ∷ rest) in
     let d : run (w ∷ rest) (x.0 + k) x.1 ≡ run rest c.0 new =
-        ap (λ o. onto o (Some (Unexpected (length (w ∷ rest)))) (λ new. onto (counted (turn w) (x.0 + k)) (Some (TooDeep (suc (length rest)))) (λ left. run rest left new))) f
-        ∙ ap (λ o. onto o (Some (TooDeep (suc (length rest)))) (λ left. run rest left new)) c.1 in
+    ap (λ o. onto o (Some (Unexpected (length (w ∷ rest)))) (λ new. onto (counted (turn w) (x.0 + k)) (Some (TooDeep (suc (length rest)))) (λ left. run rest left new))) f
+    ∙ ap (λ o. onto o (Some (TooDeep (suc (length rest)))) (λ left. run rest left new)) c.1 in
     let i : (before ++ w ∷ []) ++ rest ≡ before ++ w ∷ rest = append_assoc before (w ∷ []) rest in
     let a = accepts (room + k) ((before ++ w ∷ []) ++ rest) (ap (λ h. run h (room + k) begin) i ∙ b ∙ d ∙ finishes new c.0 c.2) in
     (rest, a.0, room + k, a.1)
@@ -112,10 +112,13 @@ is_stuck room ws (Unexpected n) s = each (feed x.0.1 w) refl
   where
     before : List Word
     before = s.0
+
     w : Word
     w = s.1
+
     x : (x : ℕ × List Sym) × (walk before room begin ≡ Some x)
     x = walks_on room s.5.0 before s.3 s.5.1
+
     each : (o : Option (List Sym)) → feed x.0.1 w ≡ o → Stuck room begin ws (Unexpected n)
     each None is = (before, w, x.0, s.2, x.1, is)
     each (Some new) is = absurd (s.4 (goes_on room before w x.0 new x.1 is))
@@ -123,6 +126,7 @@ is_stuck room ws Ended s = each (m.done x.0.1) refl
   where
     x : (x : ℕ × List Sym) × (walk ws room begin ≡ Some x)
     x = walks_on room s.2.0 ws s.0 s.2.1
+
     each : (b : Bool) → m.done x.0.1 ≡ b → Stuck room begin ws Ended
     each false is = (x.0, x.1, is)
     each true is =
@@ -132,10 +136,13 @@ is_stuck room ws (TooDeep n) s = each (feed x.0.1 w) refl
   where
     before : List Word
     before = s.0
+
     w : Word
     w = s.1
+
     x : (x : ℕ × List Sym) × (walk before room begin ≡ Some x)
     x = walks_on room 0 before (continues_before before w s.3) s.4
+
     each : (o : Option (List Sym)) → feed x.0.1 w ≡ o → Stuck room begin ws (TooDeep n)
     each None is = absurd (no_more room before w x.0 x.1 is s.3)
     each (Some new) is =

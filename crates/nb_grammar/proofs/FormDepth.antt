@@ -109,7 +109,7 @@ mutual
   expr_low (g.choose c a b) =
       let w : ExprWay = g.choose (forms (trees.or_tree c)).or (forms (trees.or_tree a)).or (forms (trees.or_tree b)).or in
       subst (λ z. Low_expr (g.choose c a b) z) (sym (forms-Choose (trees.or_tree c) (trees.or_tree a) (trees.or_tree b)))
-          (loose_expr w, omega (arith, (or_low c).1, (or_low a).1, (or_low b).1))
+      (loose_expr w, omega (arith, (or_low c).1, (or_low a).1, (or_low b).1))
 
   pub or_low : (d : OrWay) → Low_or d (forms (trees.or_tree d))
   or_low (g.or a g.no_or_part) = let l = and_low a in (l.0, omega (arith, l.0.or_and, l.1))
@@ -203,15 +203,15 @@ mutual
   primary_low (g.call1 f is a) =
       let es : List Expr = trees.expr_tree a ∷ [] in
       subst (λ z. Low_primary (g.call1 f is a) z) (sym (forms-Call f es))
-          (loose_primary (call_of f (arity f) refl (map forms es)), omega (arith, call1_low f (arity f) refl (forms (trees.expr_tree a)), (expr_low a).1))
+      (loose_primary (call_of f (arity f) refl (map forms es)), omega (arith, call1_low f (arity f) refl (forms (trees.expr_tree a)), (expr_low a).1))
   primary_low (g.call2 f is a b) =
       let es : List Expr = trees.expr_tree a ∷ trees.expr_tree b ∷ [] in
       subst (λ z. Low_primary (g.call2 f is a b) z) (sym (forms-Call f es))
-          (loose_primary (call_of f (arity f) refl (map forms es)), omega (arith, call2_low f (arity f) refl (forms (trees.expr_tree a)) (forms (trees.expr_tree b)), (expr_low a).1, (expr_low b).1))
+      (loose_primary (call_of f (arity f) refl (map forms es)), omega (arith, call2_low f (arity f) refl (forms (trees.expr_tree a)) (forms (trees.expr_tree b)), (expr_low a).1, (expr_low b).1))
   primary_low (g.call3 f is a b c) =
       let es : List Expr = trees.expr_tree a ∷ trees.expr_tree b ∷ trees.expr_tree c ∷ [] in
       subst (λ z. Low_primary (g.call3 f is a b c) z) (sym (forms-Call f es))
-          (loose_primary (call_of f (arity f) refl (map forms es)), omega (arith, call3_low f (arity f) refl (forms (trees.expr_tree a)) (forms (trees.expr_tree b)) (forms (trees.expr_tree c)), (expr_low a).1, (expr_low b).1, (expr_low c).1))
+      (loose_primary (call_of f (arity f) refl (map forms es)), omega (arith, call3_low f (arity f) refl (forms (trees.expr_tree a)) (forms (trees.expr_tree b)) (forms (trees.expr_tree c)), (expr_low a).1, (expr_low b).1, (expr_low c).1))
   primary_low (g.fetch e) =
       subst (λ z. Low_primary (g.fetch e) z) (sym (forms-Fetch (trees.expr_tree e))) (loose_primary (g.fetch (forms (trees.expr_tree e)).expr), omega (arith, (expr_low e).1))
   primary_low (g.round e) = let l = expr_low e in (l.0, omega (arith, l.0.primary_expr, l.1))
@@ -253,8 +253,8 @@ mutual
       let o : Option Block = trees.else_tree other in
       let n : ℕ = trees.stmt_depth (g.if_stmt e b more other) in
       subst (λ z. trees.stmt_depth z ≤ n) (sym (stmt_form-If (a ∷ arms) o))
-          (subst (λ (z : ExprWay × BlockWay). trees.stmt_depth (g.if_stmt z.0 z.1 (else_ifs_of (map arm_form arms)) (else_of (other_form o))) ≤ n) (sym (arm_is a))
-              (omega (arith, (expr_low e).1, block_low b, else_ifs_low more, else_low other)))
+      (subst (λ (z : ExprWay × BlockWay). trees.stmt_depth (g.if_stmt z.0 z.1 (else_ifs_of (map arm_form arms)) (else_of (other_form o))) ≤ n) (sym (arm_is a))
+      (omega (arith, (expr_low e).1, block_low b, else_ifs_low more, else_low other)))
   stmt_low (g.while_stmt e b) =
       subst (λ z. trees.stmt_depth z ≤ trees.stmt_depth (g.while_stmt e b)) (sym (stmt_form-While (trees.expr_tree e) (trees.block_tree b))) (omega (arith, (expr_low e).1, block_low b))
   stmt_low (g.for_stmt x e b) =
@@ -270,7 +270,7 @@ mutual
       let a : Arm = record { test = trees.expr_tree e; body = trees.block_tree b } in
       let ms : ElseIfs = else_ifs_of (map arm_form (trees.else_ifs_tree more)) in
       subst (λ (z : ExprWay × BlockWay). trees.else_ifs_depth (g.else_if z.0 z.1 ms) ≤ trees.else_ifs_depth (g.else_if e b more)) (sym (arm_is a))
-          (omega (arith, (expr_low e).1, block_low b, else_ifs_low more))
+      (omega (arith, (expr_low e).1, block_low b, else_ifs_low more))
 
   pub else_low : (d : ElseWay) → trees.else_depth (else_of (other_form (trees.else_tree d))) ≤ trees.else_depth d
   else_low g.no_else = omega arith

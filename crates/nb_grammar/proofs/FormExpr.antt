@@ -108,10 +108,10 @@ mutual
       let z : Expr = trees.or_tree b in
       let w : ExprWay = g.choose (forms x).or (forms y).or (forms z).or in
       along (forms (tree.Choose x y z)) (of_expr w) (trees.expr_tree w) (tree.Choose x y z) (forms-Choose x y z)
-          (ap (λ (h : Expr). tree.Choose h (trees.or_tree (forms y).or) (trees.or_tree (forms z).or)) (or_fine c).or_is
-              ∙ ap (λ (h : Expr). tree.Choose x h (trees.or_tree (forms z).or)) (or_fine a).or_is
-              ∙ ap (λ (h : Expr). tree.Choose x y h) (or_fine b).or_is)
-          (fine_expr w)
+      (ap (λ (h : Expr). tree.Choose h (trees.or_tree (forms y).or) (trees.or_tree (forms z).or)) (or_fine c).or_is
+      ∙ ap (λ (h : Expr). tree.Choose x h (trees.or_tree (forms z).or)) (or_fine a).or_is
+      ∙ ap (λ (h : Expr). tree.Choose x y h) (or_fine b).or_is)
+      (fine_expr w)
 
   pub or_fine : (d : OrWay) → Fine (forms (trees.or_tree d)) (trees.or_tree d)
   or_fine (g.or a g.no_or_part) = and_fine a
@@ -120,8 +120,8 @@ mutual
       let ys : List Expr = trees.or_parts_tree (g.or_part b more) in
       let w : OrWay = g.or (forms x).and (or_parts_of (map forms ys)) in
       along (forms (tree.Or (x ∷ ys))) (of_or w) (trees.or_tree w) (tree.Or (x ∷ ys)) (forms-Or (x ∷ ys))
-          (ap (λ (h : List Expr). r.or_of (trees.and_tree (forms x).and) h) (or_parts_fine (g.or_part b more)) ∙ ap (λ (h : Expr). tree.Or (h ∷ ys)) (and_fine a).and_is)
-          (fine_or w)
+      (ap (λ (h : List Expr). r.or_of (trees.and_tree (forms x).and) h) (or_parts_fine (g.or_part b more)) ∙ ap (λ (h : Expr). tree.Or (h ∷ ys)) (and_fine a).and_is)
+      (fine_or w)
 
   pub or_parts_fine : (d : OrParts) → trees.or_parts_tree (or_parts_of (map forms (trees.or_parts_tree d))) ≡ trees.or_parts_tree d
   or_parts_fine g.no_or_part = refl
@@ -136,8 +136,8 @@ mutual
       let ys : List Expr = trees.and_parts_tree (g.and_part b more) in
       let w : AndWay = g.and (forms x).compare (and_parts_of (map forms ys)) in
       along (forms (tree.And (x ∷ ys))) (of_and w) (trees.and_tree w) (tree.And (x ∷ ys)) (forms-And (x ∷ ys))
-          (ap (λ (h : List Expr). r.and_of (trees.compare_tree (forms x).compare) h) (and_parts_fine (g.and_part b more)) ∙ ap (λ (h : Expr). tree.And (h ∷ ys)) (compare_fine a).compare_is)
-          (fine_and w)
+      (ap (λ (h : List Expr). r.and_of (trees.compare_tree (forms x).compare) h) (and_parts_fine (g.and_part b more)) ∙ ap (λ (h : Expr). tree.And (h ∷ ys)) (compare_fine a).compare_is)
+      (fine_and w)
 
   pub and_parts_fine : (d : AndParts) → trees.and_parts_tree (and_parts_of (map forms (trees.and_parts_tree d))) ≡ trees.and_parts_tree d
   and_parts_fine g.no_and_part = refl
@@ -153,10 +153,10 @@ mutual
       let y : Expr = trees.sum_tree t in
       let w : CompareWay = g.compare (as_compare o) (forms x).sum (forms y).sum in
       along (forms (tree.Compare o x y)) (of_compare w) (trees.compare_tree w) (tree.Compare o x y) (forms-Compare o x y)
-          (ap (λ (k : CompareSign). tree.Compare (trees.compare_operator k) (trees.sum_tree (forms x).sum) (trees.sum_tree (forms y).sum)) (as_compare_again c)
-              ∙ ap (λ (h : Expr). tree.Compare o h (trees.sum_tree (forms y).sum)) (sum_fine s).sum_is
-              ∙ ap (λ (h : Expr). tree.Compare o x h) (sum_fine t).sum_is)
-          (fine_compare w)
+      (ap (λ (k : CompareSign). tree.Compare (trees.compare_operator k) (trees.sum_tree (forms x).sum) (trees.sum_tree (forms y).sum)) (as_compare_again c)
+      ∙ ap (λ (h : Expr). tree.Compare o h (trees.sum_tree (forms y).sum)) (sum_fine s).sum_is
+      ∙ ap (λ (h : Expr). tree.Compare o x h) (sum_fine t).sum_is)
+      (fine_compare w)
 
   pub sum_fine : (d : SumWay) → Fine (forms (trees.sum_tree d)) (trees.sum_tree d)
   sum_fine (g.sum p g.no_summand) = product_fine p
@@ -165,8 +165,8 @@ mutual
       let e : Expr = trees.product_tree p in
       let w : SumWay = g.sum (forms e).product (summands_of (map operand_forms os)) in
       along (forms (tree.Sum e os)) (of_sum w) (trees.sum_tree w) (tree.Sum e os) (forms-Sum e os)
-          (ap (λ (h : List Operand). r.sum_of (trees.product_tree (forms e).product) h) (summands_fine (g.summand s q more)) ∙ ap (λ (h : Expr). tree.Sum h os) (product_fine p).product_is)
-          (fine_sum w)
+      (ap (λ (h : List Operand). r.sum_of (trees.product_tree (forms e).product) h) (summands_fine (g.summand s q more)) ∙ ap (λ (h : Expr). tree.Sum h os) (product_fine p).product_is)
+      (fine_sum w)
 
   pub summands_fine : (d : Summands) → trees.summands_tree (summands_of (map operand_forms (trees.summands_tree d))) ≡ trees.summands_tree d
   summands_fine g.no_summand = refl
@@ -185,8 +185,8 @@ mutual
       let e : Expr = trees.unary_tree p in
       let w : ProductWay = g.product (forms e).unary (factors_of (map operand_forms os)) in
       along (forms (tree.Product e os)) (of_product w) (trees.product_tree w) (tree.Product e os) (forms-Product e os)
-          (ap (λ (h : List Operand). r.product_of (trees.unary_tree (forms e).unary) h) (factors_fine (g.factor s q more)) ∙ ap (λ (h : Expr). tree.Product h os) (unary_fine p).unary_is)
-          (fine_product w)
+      (ap (λ (h : List Operand). r.product_of (trees.unary_tree (forms e).unary) h) (factors_fine (g.factor s q more)) ∙ ap (λ (h : Expr). tree.Product h os) (unary_fine p).unary_is)
+      (fine_product w)
 
   pub factors_fine : (d : Factors) → trees.factors_tree (factors_of (map operand_forms (trees.factors_tree d))) ≡ trees.factors_tree d
   factors_fine g.no_factor = refl
@@ -205,9 +205,9 @@ mutual
       let e : Expr = trees.postfix_tree p in
       let w : UnaryWay = g.signed (as_unary o) (forms e).postfix in
       along (forms (tree.Unary o e)) (of_unary w) (trees.unary_tree w) (tree.Unary o e) (forms-Unary o e)
-          (ap (λ (k : UnarySign). tree.Unary (trees.unary_operator k) (trees.postfix_tree (forms e).postfix)) (as_unary_again s)
-              ∙ ap (λ (h : Expr). tree.Unary o h) (postfix_fine p).postfix_is)
-          (fine_unary w)
+      (ap (λ (k : UnarySign). tree.Unary (trees.unary_operator k) (trees.postfix_tree (forms e).postfix)) (as_unary_again s)
+      ∙ ap (λ (h : Expr). tree.Unary o h) (postfix_fine p).postfix_is)
+      (fine_unary w)
 
   pub postfix_fine : (d : PostfixWay) → Fine (forms (trees.postfix_tree d)) (trees.postfix_tree d)
   postfix_fine (g.postfix p g.no_step) = primary_fine p
@@ -216,15 +216,15 @@ mutual
       let e : Expr = trees.primary_tree p in
       let w : PostfixWay = g.postfix (forms e).primary (steps_of (map step_forms ss)) in
       along (forms (tree.Path e ss)) (of_postfix w) (trees.postfix_tree w) (tree.Path e ss) (forms-Path e ss)
-          (ap (λ (h : List PathStep). r.path_of (trees.primary_tree (forms e).primary) h) (steps_fine (g.field x more)) ∙ ap (λ (h : Expr). tree.Path h ss) (primary_fine p).primary_is)
-          (fine_postfix w)
+      (ap (λ (h : List PathStep). r.path_of (trees.primary_tree (forms e).primary) h) (steps_fine (g.field x more)) ∙ ap (λ (h : Expr). tree.Path h ss) (primary_fine p).primary_is)
+      (fine_postfix w)
   postfix_fine (g.postfix p (g.at x more)) =
       let ss : List PathStep = trees.steps_tree (g.at x more) in
       let e : Expr = trees.primary_tree p in
       let w : PostfixWay = g.postfix (forms e).primary (steps_of (map step_forms ss)) in
       along (forms (tree.Path e ss)) (of_postfix w) (trees.postfix_tree w) (tree.Path e ss) (forms-Path e ss)
-          (ap (λ (h : List PathStep). r.path_of (trees.primary_tree (forms e).primary) h) (steps_fine (g.at x more)) ∙ ap (λ (h : Expr). tree.Path h ss) (primary_fine p).primary_is)
-          (fine_postfix w)
+      (ap (λ (h : List PathStep). r.path_of (trees.primary_tree (forms e).primary) h) (steps_fine (g.at x more)) ∙ ap (λ (h : Expr). tree.Path h ss) (primary_fine p).primary_is)
+      (fine_postfix w)
 
   pub steps_fine : (d : Steps) → trees.steps_tree (steps_of (map step_forms (trees.steps_tree d))) ≡ trees.steps_tree d
   steps_fine g.no_step = refl
@@ -247,18 +247,18 @@ mutual
       let es : List Expr = trees.expr_tree a ∷ [] in
       let w : PrimaryWay = call_of f (arity f) refl (map forms es) in
       along (forms (tree.Call f es)) (of_primary w) (trees.primary_tree w) (tree.Call f es) (forms-Call f es)
-          (call1_tree f (arity f) refl is (forms (trees.expr_tree a)) ∙ ap (λ (h : Expr). tree.Call f (h ∷ [])) (expr_fine a).expr_is)
-          (fine_primary w)
+      (call1_tree f (arity f) refl is (forms (trees.expr_tree a)) ∙ ap (λ (h : Expr). tree.Call f (h ∷ [])) (expr_fine a).expr_is)
+      (fine_primary w)
   primary_fine (g.call2 f is a b) =
       let x : Expr = trees.expr_tree a in
       let y : Expr = trees.expr_tree b in
       let es : List Expr = x ∷ y ∷ [] in
       let w : PrimaryWay = call_of f (arity f) refl (map forms es) in
       along (forms (tree.Call f es)) (of_primary w) (trees.primary_tree w) (tree.Call f es) (forms-Call f es)
-          (call2_tree f (arity f) refl is (forms x) (forms y)
-              ∙ ap (λ (h : Expr). tree.Call f (h ∷ trees.expr_tree (forms y).expr ∷ [])) (expr_fine a).expr_is
-              ∙ ap (λ (h : Expr). tree.Call f (x ∷ h ∷ [])) (expr_fine b).expr_is)
-          (fine_primary w)
+      (call2_tree f (arity f) refl is (forms x) (forms y)
+      ∙ ap (λ (h : Expr). tree.Call f (h ∷ trees.expr_tree (forms y).expr ∷ [])) (expr_fine a).expr_is
+      ∙ ap (λ (h : Expr). tree.Call f (x ∷ h ∷ [])) (expr_fine b).expr_is)
+      (fine_primary w)
   primary_fine (g.call3 f is a b c) =
       let x : Expr = trees.expr_tree a in
       let y : Expr = trees.expr_tree b in
@@ -266,11 +266,11 @@ mutual
       let es : List Expr = x ∷ y ∷ z ∷ [] in
       let w : PrimaryWay = call_of f (arity f) refl (map forms es) in
       along (forms (tree.Call f es)) (of_primary w) (trees.primary_tree w) (tree.Call f es) (forms-Call f es)
-          (call3_tree f (arity f) refl is (forms x) (forms y) (forms z)
-              ∙ ap (λ (h : Expr). tree.Call f (h ∷ trees.expr_tree (forms y).expr ∷ trees.expr_tree (forms z).expr ∷ [])) (expr_fine a).expr_is
-              ∙ ap (λ (h : Expr). tree.Call f (x ∷ h ∷ trees.expr_tree (forms z).expr ∷ [])) (expr_fine b).expr_is
-              ∙ ap (λ (h : Expr). tree.Call f (x ∷ y ∷ h ∷ [])) (expr_fine c).expr_is)
-          (fine_primary w)
+      (call3_tree f (arity f) refl is (forms x) (forms y) (forms z)
+      ∙ ap (λ (h : Expr). tree.Call f (h ∷ trees.expr_tree (forms y).expr ∷ trees.expr_tree (forms z).expr ∷ [])) (expr_fine a).expr_is
+      ∙ ap (λ (h : Expr). tree.Call f (x ∷ h ∷ trees.expr_tree (forms z).expr ∷ [])) (expr_fine b).expr_is
+      ∙ ap (λ (h : Expr). tree.Call f (x ∷ y ∷ h ∷ [])) (expr_fine c).expr_is)
+      (fine_primary w)
   primary_fine (g.fetch e) =
       let x : Expr = trees.expr_tree e in
       let w : PrimaryWay = g.fetch (forms x).expr in
@@ -281,17 +281,17 @@ mutual
       let es : List Expr = trees.expr_tree e ∷ trees.items_tree more in
       let w : PrimaryWay = list_of (map forms es) in
       along (forms (tree.List es)) (of_primary w) (trees.primary_tree w) (tree.List es) (forms-List es)
-          (ap (λ (h : Expr). tree.List (h ∷ trees.items_tree (items_of (map forms (trees.items_tree more))))) (expr_fine e).expr_is
-              ∙ ap (λ (h : List Expr). tree.List (trees.expr_tree e ∷ h)) (items_fine more))
-          (fine_primary w)
+      (ap (λ (h : Expr). tree.List (h ∷ trees.items_tree (items_of (map forms (trees.items_tree more))))) (expr_fine e).expr_is
+      ∙ ap (λ (h : List Expr). tree.List (trees.expr_tree e ∷ h)) (items_fine more))
+      (fine_primary w)
   primary_fine g.no_pairs = along (forms (tree.Rec [])) (of_primary (g.no_pairs)) (tree.Rec []) (tree.Rec []) (forms-Rec []) refl (fine_primary (g.no_pairs))
   primary_fine (g.pairs p more) =
       let ms : List Member = trees.pair_tree p ∷ trees.pairs_tree more in
       let w : PrimaryWay = record_of (map member_forms ms) in
       along (forms (tree.Rec ms)) (of_primary w) (trees.primary_tree w) (tree.Rec ms) (forms-Rec ms)
-          (ap (λ (h : Member). tree.Rec (h ∷ trees.pairs_tree (pairs_of (map member_forms (trees.pairs_tree more))))) (pair_fine p)
-              ∙ ap (λ (h : List Member). tree.Rec (trees.pair_tree p ∷ h)) (pairs_fine more))
-          (fine_primary w)
+      (ap (λ (h : Member). tree.Rec (h ∷ trees.pairs_tree (pairs_of (map member_forms (trees.pairs_tree more))))) (pair_fine p)
+      ∙ ap (λ (h : List Member). tree.Rec (trees.pair_tree p ∷ h)) (pairs_fine more))
+      (fine_primary w)
 
   pub items_fine : (d : Items) → trees.items_tree (items_of (map forms (trees.items_tree d))) ≡ trees.items_tree d
   items_fine g.no_item = refl

@@ -104,7 +104,7 @@ mutual
   expr_kept P k (g.choose c a b) h =
       let w : ExprWay = g.choose (forms (trees.or_tree c)).or (forms (trees.or_tree a)).or (forms (trees.or_tree b)).or in
       subst (λ z. Holds P z) (sym (forms-Choose (trees.or_tree c) (trees.or_tree a) (trees.or_tree b)))
-          (holds_expr P k w ((or_kept P k c h.0).or, h.1, (or_kept P k a h.2).or, h.3, (or_kept P k b h.4).or))
+      (holds_expr P k w ((or_kept P k c h.0).or, h.1, (or_kept P k a h.2).or, h.3, (or_kept P k b h.4).or))
 
   pub or_kept : (P : Word → Type 0) → Keeps P → (d : OrWay) → or_each P d → Holds P (forms (trees.or_tree d))
   or_kept P k (g.or a g.no_or_part) h = and_kept P k a h.0
@@ -133,7 +133,7 @@ mutual
   compare_kept P k (g.compare c s t) h =
       let w : CompareWay = g.compare (as_compare (trees.compare_operator c)) (forms (trees.sum_tree s)).sum (forms (trees.sum_tree t)).sum in
       subst (λ z. Holds P z) (sym (forms-Compare (trees.compare_operator c) (trees.sum_tree s) (trees.sum_tree t)))
-          (holds_compare P k w ((sum_kept P k s h.0).sum, subst (λ z. P (g.compare_word z)) (sym (as_compare_again c)) h.1, (sum_kept P k t h.2).sum))
+      (holds_compare P k w ((sum_kept P k s h.0).sum, subst (λ z. P (g.compare_word z)) (sym (as_compare_again c)) h.1, (sum_kept P k t h.2).sum))
 
   pub sum_kept : (P : Word → Type 0) → Keeps P → (d : SumWay) → sum_each P d → Holds P (forms (trees.sum_tree d))
   sum_kept P k (g.sum p g.no_summand) h = product_kept P k p h.0
@@ -148,7 +148,7 @@ mutual
       let o : Operand = record { sign = trees.sum_operator s; expr = trees.product_tree p } in
       let ms : Summands = summands_of (map operand_forms (trees.summands_tree more)) in
       subst (λ (z : Sign × Forms). summands_each P (g.summand (as_sum z.0) z.1.product ms)) (sym (operand_is o))
-          (subst (λ z. P (g.sum_word z)) (sym (as_sum_again s)) h.0, (product_kept P k p h.1).product, summands_kept P k more h.2)
+      (subst (λ z. P (g.sum_word z)) (sym (as_sum_again s)) h.0, (product_kept P k p h.1).product, summands_kept P k more h.2)
 
   pub product_kept : (P : Word → Type 0) → Keeps P → (d : ProductWay) → product_each P d → Holds P (forms (trees.product_tree d))
   product_kept P k (g.product p g.no_factor) h = unary_kept P k p h.0
@@ -163,14 +163,14 @@ mutual
       let o : Operand = record { sign = trees.product_operator s; expr = trees.unary_tree p } in
       let ms : Factors = factors_of (map operand_forms (trees.factors_tree more)) in
       subst (λ (z : Sign × Forms). factors_each P (g.factor (as_product z.0) z.1.unary ms)) (sym (operand_is o))
-          (subst (λ z. P (g.product_word z)) (sym (as_product_again s)) h.0, (unary_kept P k p h.1).unary, factors_kept P k more h.2)
+      (subst (λ z. P (g.product_word z)) (sym (as_product_again s)) h.0, (unary_kept P k p h.1).unary, factors_kept P k more h.2)
 
   pub unary_kept : (P : Word → Type 0) → Keeps P → (d : UnaryWay) → unary_each P d → Holds P (forms (trees.unary_tree d))
   unary_kept P k (g.unsigned p) h = postfix_kept P k p h
   unary_kept P k (g.signed s p) h =
       let w : UnaryWay = g.signed (as_unary (trees.unary_operator s)) (forms (trees.postfix_tree p)).postfix in
       subst (λ z. Holds P z) (sym (forms-Unary (trees.unary_operator s) (trees.postfix_tree p)))
-          (holds_unary P k w (subst (λ z. P (g.unary_word z)) (sym (as_unary_again s)) h.0, (postfix_kept P k p h.1).postfix))
+      (holds_unary P k w (subst (λ z. P (g.unary_word z)) (sym (as_unary_again s)) h.0, (postfix_kept P k p h.1).postfix))
 
   pub postfix_kept : (P : Word → Type 0) → Keeps P → (d : PostfixWay) → postfix_each P d → Holds P (forms (trees.postfix_tree d))
   postfix_kept P k (g.postfix p g.no_step) h = primary_kept P k p h.0
@@ -202,15 +202,15 @@ mutual
   primary_kept P k (g.call1 f is a) h =
       let es : List Expr = trees.expr_tree a ∷ [] in
       subst (λ z. Holds P z) (sym (forms-Call f es))
-          (holds_primary P (call_of f (arity f) refl (map forms es)) (call1_kept P f (arity f) refl is (forms (trees.expr_tree a)) (h.0, h.1, (expr_kept P k a h.2).expr, h.3)))
+      (holds_primary P (call_of f (arity f) refl (map forms es)) (call1_kept P f (arity f) refl is (forms (trees.expr_tree a)) (h.0, h.1, (expr_kept P k a h.2).expr, h.3)))
   primary_kept P k (g.call2 f is a b) h =
       let es : List Expr = trees.expr_tree a ∷ trees.expr_tree b ∷ [] in
       subst (λ z. Holds P z) (sym (forms-Call f es))
-          (holds_primary P (call_of f (arity f) refl (map forms es)) (call2_kept P f (arity f) refl is (forms (trees.expr_tree a)) (forms (trees.expr_tree b)) (h.0, h.1, (expr_kept P k a h.2).expr, h.3, (expr_kept P k b h.4).expr, h.5)))
+      (holds_primary P (call_of f (arity f) refl (map forms es)) (call2_kept P f (arity f) refl is (forms (trees.expr_tree a)) (forms (trees.expr_tree b)) (h.0, h.1, (expr_kept P k a h.2).expr, h.3, (expr_kept P k b h.4).expr, h.5)))
   primary_kept P k (g.call3 f is a b c) h =
       let es : List Expr = trees.expr_tree a ∷ trees.expr_tree b ∷ trees.expr_tree c ∷ [] in
       subst (λ z. Holds P z) (sym (forms-Call f es))
-          (holds_primary P (call_of f (arity f) refl (map forms es)) (call3_kept P f (arity f) refl is (forms (trees.expr_tree a)) (forms (trees.expr_tree b)) (forms (trees.expr_tree c)) (h.0, h.1, (expr_kept P k a h.2).expr, h.3, (expr_kept P k b h.4).expr, h.5, (expr_kept P k c h.6).expr, h.7)))
+      (holds_primary P (call_of f (arity f) refl (map forms es)) (call3_kept P f (arity f) refl is (forms (trees.expr_tree a)) (forms (trees.expr_tree b)) (forms (trees.expr_tree c)) (h.0, h.1, (expr_kept P k a h.2).expr, h.3, (expr_kept P k b h.4).expr, h.5, (expr_kept P k c h.6).expr, h.7)))
   primary_kept P k (g.fetch e) h =
       subst (λ z. Holds P z) (sym (forms-Fetch (trees.expr_tree e))) (holds_primary P (g.fetch (forms (trees.expr_tree e)).expr) (h.0, h.1, (expr_kept P k e h.2).expr, h.3))
   primary_kept P k (g.round e) h = expr_kept P k e h.1
@@ -235,7 +235,7 @@ mutual
       → pair_each P (g.pair (g.quoted_key (member_forms (trees.pair_tree d)).0) (member_forms (trees.pair_tree d)).1.expr)
   pair_kept P k (g.pair key e) h =
       subst (λ (z : List ℕ × Forms). pair_each P (g.pair (g.quoted_key z.0) z.1.expr)) (sym (member_is (trees.pair_tree (g.pair key e))))
-          (key_kept P k key h.0, h.1, (expr_kept P k e h.2).expr)
+      (key_kept P k key h.0, h.1, (expr_kept P k e h.2).expr)
 
 mutual
   pub block_kept : (P : Word → Type 0) → Keeps P → (d : BlockWay) → block_each P d → block_each P (block_form (trees.block_tree d))
@@ -253,8 +253,8 @@ mutual
       let arms : List Arm = trees.else_ifs_tree more in
       let o : Option Block = trees.else_tree other in
       subst (λ z. stmt_each P z) (sym (stmt_form-If (a ∷ arms) o))
-          (subst (λ (z : ExprWay × BlockWay). stmt_each P (g.if_stmt z.0 z.1 (else_ifs_of (map arm_form arms)) (else_of (other_form o)))) (sym (arm_is a))
-              (h.0, h.1, (expr_kept P k e h.2).expr, h.3, block_kept P k b h.4, else_ifs_kept P k more h.5, else_kept P k other h.6))
+      (subst (λ (z : ExprWay × BlockWay). stmt_each P (g.if_stmt z.0 z.1 (else_ifs_of (map arm_form arms)) (else_of (other_form o)))) (sym (arm_is a))
+      (h.0, h.1, (expr_kept P k e h.2).expr, h.3, block_kept P k b h.4, else_ifs_kept P k more h.5, else_kept P k other h.6))
   stmt_kept P k (g.while_stmt e b) h =
       subst (λ z. stmt_each P z) (sym (stmt_form-While (trees.expr_tree e) (trees.block_tree b))) (h.0, h.1, (expr_kept P k e h.2).expr, h.3, block_kept P k b h.4)
   stmt_kept P k (g.for_stmt x e b) h =
@@ -270,7 +270,7 @@ mutual
       let a : Arm = record { test = trees.expr_tree e; body = trees.block_tree b } in
       let ms : ElseIfs = else_ifs_of (map arm_form (trees.else_ifs_tree more)) in
       subst (λ (z : ExprWay × BlockWay). else_ifs_each P (g.else_if z.0 z.1 ms)) (sym (arm_is a))
-          (h.0, h.1, h.2, (expr_kept P k e h.3).expr, h.4, block_kept P k b h.5, else_ifs_kept P k more h.6)
+      (h.0, h.1, h.2, (expr_kept P k e h.3).expr, h.4, block_kept P k b h.5, else_ifs_kept P k more h.6)
 
   pub else_kept : (P : Word → Type 0) → Keeps P → (d : ElseWay) → else_each P d → else_each P (else_of (other_form (trees.else_tree d)))
   else_kept P k g.no_else h = tt

@@ -16,7 +16,7 @@ use Rattle.nb_grammar.proofs.FormWords.{Keeps, cell_kept}
 pub printed_again : (room : ℕ) (ws : List Word) (c : Cell) → Spells room ws c → Spells room (printed c) c
 printed_again room ws c s =
     subst (λ z. Spells room (printed z) z) s.tree_is
-        (record { way = cell_form (trees.cell_tree s.way); words = refl; tree_is = cell_fine s.way; deep = omega (arith, cell_low s.way, s.deep) })
+    (record { way = cell_form (trees.cell_tree s.way); words = refl; tree_is = cell_fine s.way; deep = omega (arith, cell_low s.way, s.deep) })
 
 -- What is printed of a cell that was read is read as that cell.
 pub printed_read : (room : ℕ) (ws : List Word) (c : Cell) → Spells room ws c → r.whole room (printed c) ≡ Ok c

@@ -78,8 +78,12 @@ named_cell_ok room within n ws x e =
     let c : Cell = record { name = Some n; body = a.0.0 } in
     let t = first_is (c, a.0.1) x a.2 in
     let u = second_is (c, a.0.1) x a.2 in
-    record { way = g.named n v.way; words_are = ap (λ h. word.Name n ∷ word.Assign ∷ g.body_words v.way h) (sym u) ∙ ap (λ h. word.Name n ∷ word.Assign ∷ h) v.words_are;
-        tree_is = ap (λ h. let z : Cell = record { name = Some n; body = h } in z) v.tree_is ∙ t; deep = v.deep }
+    record {
+      way = g.named n v.way;
+      words_are = ap (λ h. word.Name n ∷ word.Assign ∷ g.body_words v.way h) (sym u) ∙ ap (λ h. word.Name n ∷ word.Assign ∷ h) v.words_are;
+      tree_is = ap (λ h. let z : Cell = record { name = Some n; body = h } in z) v.tree_is ∙ t;
+      deep = v.deep;
+    }
 
 pub cell_ok : (room : ℕ) → Within SoundInner room → Sound (r.cell (inside_of room)) g.cell_words trees.cell_tree trees.cell_depth room
 cell_ok room within (word.Name n ∷ word.Assign ∷ ws) x e = named_cell_ok room within n ws x e

@@ -199,8 +199,12 @@ compared_ok room within a deep (Some s) w is ws x e =
     let k = compare_sign_ok w s is in
     let t = first_is (tree.Compare s (trees.sum_tree a) b.0.0, b.0.1) x b.2 in
     let u = second_is (tree.Compare s (trees.sum_tree a) b.0.0, b.0.1) x b.2 in
-    record { way = g.compare k.0 a v.way; words_are = cc (v.words_are, k.1, u);
-        tree_is = ap (λ h. tree.Compare h (trees.sum_tree a) (trees.sum_tree v.way)) k.2 ∙ ap (λ h. tree.Compare s (trees.sum_tree a) h) v.tree_is ∙ t; deep = omega (arith, v.deep, deep) }
+    record {
+      way = g.compare k.0 a v.way;
+      words_are = cc (v.words_are, k.1, u);
+      tree_is = ap (λ h. tree.Compare h (trees.sum_tree a) (trees.sum_tree v.way)) k.2 ∙ ap (λ h. tree.Compare s (trees.sum_tree a) h) v.tree_is ∙ t;
+      deep = omega (arith, v.deep, deep);
+    }
 
 pub compare_at_ok : (room : ℕ) → Within SoundInner room → (a : SumWay) → trees.sum_depth a ≤ room → (ws : List Word) (x : Expr × List Word)
     → r.compare_at (inside_of room) (trees.sum_tree a) ws ≡ Ok x

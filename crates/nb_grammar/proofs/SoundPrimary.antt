@@ -81,14 +81,18 @@ arguments_ok room sound (suc n) done ws x e =
     let v = sound a.0 b.0 b.1 in
     let k = comma_ok ws a.0 a.1 in
     let s = arguments_ok room sound n (done ++ b.0.0 ∷ []) b.0.1 x b.2 in
-    record { way = g.item v.way s.way; words_are = cc (v.words_are, s.words_are, k);
-        tree_is = s.tree_is ∙ append_assoc done (b.0.0 ∷ []) (trees.items_tree s.way) ∙ ap (λ h. done ++ h ∷ trees.items_tree s.way) (sym v.tree_is);
-        deep = omega (arith, v.deep, s.deep); many = ap (λ h. suc h) s.many }
+    record {
+      way = g.item v.way s.way;
+      words_are = cc (v.words_are, s.words_are, k);
+      tree_is = s.tree_is ∙ append_assoc done (b.0.0 ∷ []) (trees.items_tree s.way) ∙ ap (λ h. done ++ h ∷ trees.items_tree s.way) (sym v.tree_is);
+      deep = omega (arith, v.deep, s.deep);
+      many = ap (λ h. suc h) s.many;
+    }
 
 pub call_way : (room : ℕ) (f : Function) (a : ExprWay) (more : Items) (rest : List Word) → suc (count more) ≡ arity f
     → suc (max (trees.expr_depth a) (trees.items_depth more)) ≤ room
     → Spelled g.primary_words trees.primary_tree trees.primary_depth room
-        (word.Name (function_name f) ∷ word.OpenRound ∷ g.expr_words a (g.items_words more (word.CloseRound ∷ rest))) (tree.Call f (trees.expr_tree a ∷ trees.items_tree more)) rest
+    (word.Name (function_name f) ∷ word.OpenRound ∷ g.expr_words a (g.items_words more (word.CloseRound ∷ rest))) (tree.Call f (trees.expr_tree a ∷ trees.items_tree more)) rest
 call_way room f a g.no_item rest is deep = record { way = g.call1 f (sym is) a; words_are = refl; tree_is = refl; deep = omega (arith, deep) }
 call_way room f a (g.item b g.no_item) rest is deep = record { way = g.call2 f (sym is) a b; words_are = refl; tree_is = refl; deep = omega (arith, deep) }
 call_way room f a (g.item b (g.item c g.no_item)) rest is deep =
@@ -112,16 +116,20 @@ call_ok room sound f ws x e =
     let w : g.expr_words v.way (g.items_words s.way (word.CloseRound ∷ x.1)) ≡ ws = cc (v.words_are, s.words_are, k, u) in
     let l : trees.expr_tree v.way ∷ trees.items_tree s.way ≡ b.0.0 = ap (λ h. h ∷ trees.items_tree s.way) v.tree_is ∙ sym s.tree_is in
     respelled g.primary_words trees.primary_tree trees.primary_depth (suc room)
-        (word.Name (function_name f) ∷ word.OpenRound ∷ g.expr_words v.way (g.items_words s.way (word.CloseRound ∷ x.1))) (word.Name (function_name f) ∷ word.OpenRound ∷ ws)
-        (tree.Call f (trees.expr_tree v.way ∷ trees.items_tree s.way)) x.0 x.1 z (ap (λ h. word.Name (function_name f) ∷ word.OpenRound ∷ h) w) (ap (λ h. tree.Call f h) l ∙ t)
+    (word.Name (function_name f) ∷ word.OpenRound ∷ g.expr_words v.way (g.items_words s.way (word.CloseRound ∷ x.1))) (word.Name (function_name f) ∷ word.OpenRound ∷ ws)
+    (tree.Call f (trees.expr_tree v.way ∷ trees.items_tree s.way)) x.0 x.1 z (ap (λ h. word.Name (function_name f) ∷ word.OpenRound ∷ h) w) (ap (λ h. tree.Call f h) l ∙ t)
 
 pub named_ok : (room : ℕ) → Within SoundInner room → (n : List ℕ) (o : Option Function) → called n ≡ o → (ws : List Word) (x : Expr × List Word)
     → r.named (inside_of room) n o ws ≡ Ok x → Spelled g.primary_words trees.primary_tree trees.primary_depth room (word.Name n ∷ ws) x.0 x.1
 named_ok room within n (Some f) is (word.OpenRound ∷ ws) x e =
     let o = opened_ok SoundInner room within ws _ x e in
     let s = call_ok o.0 o.2.0 f ws x o.3 in
-    record { way = s.way; words_are = s.words_are ∙ ap (λ h. word.Name h ∷ word.OpenRound ∷ ws) (sym (called_name n f is)); tree_is = s.tree_is;
-        deep = omega (arith, s.deep, o.1) }
+    record {
+      way = s.way;
+      words_are = s.words_are ∙ ap (λ h. word.Name h ∷ word.OpenRound ∷ ws) (sym (called_name n f is));
+      tree_is = s.tree_is;
+      deep = omega (arith, s.deep, o.1);
+    }
 named_ok room within n (Some f) is [] x e =
     record { way = g.name n; words_are = ap (λ h. word.Name n ∷ h) (sym (second_is (tree.Name n, []) x e)); tree_is = first_is (tree.Name n, []) x e; deep = omega arith }
 named_ok room within n (Some f) is (w ∷ ws) x e =
@@ -174,8 +182,12 @@ some_items_ok room sound ws x e =
 pub list_ok : (room : ℕ) → SoundExpr room → (ws : List Word) (x : Expr × List Word) → r.items (r.expr (inside_of room)) ws ≡ Ok x
     → Spelled g.primary_words trees.primary_tree trees.primary_depth (suc room) (word.OpenSquare ∷ ws) x.0 x.1
 list_ok room sound (word.CloseSquare ∷ ws) x e =
-    record { way = g.no_items; words_are = ap (λ h. word.OpenSquare ∷ word.CloseSquare ∷ h) (sym (second_is (tree.List [], ws) x e));
-        tree_is = first_is (tree.List [], ws) x e; deep = omega arith }
+    record {
+      way = g.no_items;
+      words_are = ap (λ h. word.OpenSquare ∷ word.CloseSquare ∷ h) (sym (second_is (tree.List [], ws) x e));
+      tree_is = first_is (tree.List [], ws) x e;
+      deep = omega arith;
+    }
 list_ok room sound ws x e = some_items_ok room sound ws x e
 
 -- records
@@ -191,7 +203,7 @@ pair_ok room sound ws x e =
     let t = first_is (f, c.0.1) x c.2 in
     let u = second_is (f, c.0.1) x c.2 in
     let tk : (let z : Member = record { key = trees.key_text n.way; value = trees.expr_tree v.way } in z ≡ f) =
-        ap (λ h. let z : Member = record { key = h; value = trees.expr_tree v.way } in z) n.text_is ∙ ap (λ h. let z : Member = record { key = a.0.0; value = h } in z) v.tree_is in
+    ap (λ h. let z : Member = record { key = h; value = trees.expr_tree v.way } in z) n.text_is ∙ ap (λ h. let z : Member = record { key = a.0.0; value = h } in z) v.tree_is in
     record { way = g.pair n.way v.way; words_are = cc (v.words_are, n.words_are, k, u); tree_is = tk ∙ t; deep = v.deep }
 
 pub next_pair_ok : (room : ℕ) → SoundExpr room → (ws mid rest : List Word) (a : Member) (found : List Member)
@@ -204,8 +216,12 @@ next_pair_ok room sound (word.Comma ∷ ws) mid rest a found e s =
     let t = first_is (Some b.0.0, b.0.1) (Some a, mid) b.2 in
     let u = second_is (Some b.0.0, b.0.1) (Some a, mid) b.2 in
     let k : b.0.0 ≡ a = cc in
-    record { way = g.next_pair v.way s.way; words_are = ap (λ h. word.Comma ∷ g.pair_words v.way h) (s.words_are ∙ sym u) ∙ ap (λ h. word.Comma ∷ h) v.words_are;
-        tree_is = ap (λ h. trees.pair_tree v.way ∷ h) s.tree_is ∙ ap (λ h. h ∷ found) (v.tree_is ∙ k); deep = omega (arith, v.deep, s.deep) }
+    record {
+      way = g.next_pair v.way s.way;
+      words_are = ap (λ h. word.Comma ∷ g.pair_words v.way h) (s.words_are ∙ sym u) ∙ ap (λ h. word.Comma ∷ h) v.words_are;
+      tree_is = ap (λ h. trees.pair_tree v.way ∷ h) s.tree_is ∙ ap (λ h. h ∷ found) (v.tree_is ∙ k);
+      deep = omega (arith, v.deep, s.deep);
+    }
 next_pair_ok room sound [] mid rest a found e s = cc (first_is (None, []) (Some a, mid) e)
 next_pair_ok room sound (w ∷ ws) mid rest a found e s = cc (first_is (None, w ∷ ws) (Some a, mid) e)
 
@@ -236,14 +252,22 @@ some_pairs_ok room sound ws x e =
     let u = second_is (tree.Rec b.0.0, c.0) x c.2 in
     let is : g.pairs_words s.way (word.CloseCurly ∷ x.1) ≡ a.0.1 = cc (s.words_are, k, u) in
     let l : trees.pair_tree v.way ∷ trees.pairs_tree s.way ≡ b.0.0 = ap (λ h. h ∷ trees.pairs_tree s.way) v.tree_is ∙ ap (λ h. a.0.0 ∷ h) s.tree_is ∙ sym m.1 in
-    record { way = g.pairs v.way s.way; words_are = ap (λ h. word.OpenCurly ∷ g.pair_words v.way h) is ∙ ap (λ h. word.OpenCurly ∷ h) v.words_are;
-        tree_is = ap (λ h. tree.Rec h) l ∙ t; deep = omega (arith, v.deep, s.deep) }
+    record {
+      way = g.pairs v.way s.way;
+      words_are = ap (λ h. word.OpenCurly ∷ g.pair_words v.way h) is ∙ ap (λ h. word.OpenCurly ∷ h) v.words_are;
+      tree_is = ap (λ h. tree.Rec h) l ∙ t;
+      deep = omega (arith, v.deep, s.deep);
+    }
 
 pub record_ok : (room : ℕ) → SoundExpr room → (ws : List Word) (x : Expr × List Word) → r.pairs (r.expr (inside_of room)) ws ≡ Ok x
     → Spelled g.primary_words trees.primary_tree trees.primary_depth (suc room) (word.OpenCurly ∷ ws) x.0 x.1
 record_ok room sound (word.CloseCurly ∷ ws) x e =
-    record { way = g.no_pairs; words_are = ap (λ h. word.OpenCurly ∷ word.CloseCurly ∷ h) (sym (second_is (tree.Rec [], ws) x e));
-        tree_is = first_is (tree.Rec [], ws) x e; deep = omega arith }
+    record {
+      way = g.no_pairs;
+      words_are = ap (λ h. word.OpenCurly ∷ word.CloseCurly ∷ h) (sym (second_is (tree.Rec [], ws) x e));
+      tree_is = first_is (tree.Rec [], ws) x e;
+      deep = omega arith;
+    }
 record_ok room sound ws x e = some_pairs_ok room sound ws x e
 
 pub primary_ok : (room : ℕ) → Within SoundInner room → Sound (r.primary (inside_of room)) g.primary_words trees.primary_tree trees.primary_depth room

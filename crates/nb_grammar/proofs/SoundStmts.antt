@@ -58,9 +58,13 @@ arm_ok room within ws x e =
     let t = first_is (m, b.0.1) x b.2 in
     let u = second_is (m, b.0.1) x b.2 in
     let w : g.block_words s.way x.1 ≡ a.0.1 = cc (s.words_are, u) in
-    record { test = v.way; block = s.way; words_are = ap (λ h. word.OpenRound ∷ g.expr_words v.way (word.CloseRound ∷ h)) w ∙ v.words_are;
-        tree_is = ap (λ h. let z : Arm = record { test = h; body = trees.block_tree s.way } in z) v.tree_is ∙ ap (λ h. let z : Arm = record { test = a.0.0; body = h } in z) s.tree_is ∙ t;
-        deep = omega (arith, v.deep, s.deep) }
+    record {
+      test = v.way;
+      block = s.way;
+      words_are = ap (λ h. word.OpenRound ∷ g.expr_words v.way (word.CloseRound ∷ h)) w ∙ v.words_are;
+      tree_is = ap (λ h. let z : Arm = record { test = h; body = trees.block_tree s.way } in z) v.tree_is ∙ ap (λ h. let z : Arm = record { test = a.0.0; body = h } in z) s.tree_is ∙ t;
+      deep = omega (arith, v.deep, s.deep);
+    }
 
 pub else_if_ok : (room : ℕ) → Within SoundInner room → (ws mid rest : List Word) (a : Arm) (found : List Arm)
     → r.else_if (inside_of room) ws ≡ Ok (Some a, mid)
@@ -73,9 +77,12 @@ else_if_ok room within (word.Else ∷ word.If ∷ ws) mid rest a found e s =
     let u = second_is (Some b.0.0, b.0.1) (Some a, mid) b.2 in
     let k : b.0.0 ≡ a = cc in
     let w : g.else_ifs_words s.way rest ≡ b.0.1 = s.words_are ∙ sym u in
-    record { way = g.else_if v.test v.block s.way;
-        words_are = ap (λ h. word.Else ∷ word.If ∷ word.OpenRound ∷ g.expr_words v.test (word.CloseRound ∷ g.block_words v.block h)) w ∙ ap (λ h. word.Else ∷ word.If ∷ h) v.words_are;
-        tree_is = ap (λ h. h ∷ trees.else_ifs_tree s.way) (v.tree_is ∙ k) ∙ ap (λ h. a ∷ h) s.tree_is; deep = omega (arith, v.deep, s.deep) }
+    record {
+      way = g.else_if v.test v.block s.way;
+      words_are = ap (λ h. word.Else ∷ word.If ∷ word.OpenRound ∷ g.expr_words v.test (word.CloseRound ∷ g.block_words v.block h)) w ∙ ap (λ h. word.Else ∷ word.If ∷ h) v.words_are;
+      tree_is = ap (λ h. h ∷ trees.else_ifs_tree s.way) (v.tree_is ∙ k) ∙ ap (λ h. a ∷ h) s.tree_is;
+      deep = omega (arith, v.deep, s.deep);
+    }
 else_if_ok room within (word.Else ∷ []) mid rest a found e s = cc (first_is (None, word.Else ∷ []) (Some a, mid) e)
 else_if_ok room within (word.Else ∷ w ∷ ws) mid rest a found e s = cc (first_is (None, word.Else ∷ w ∷ ws) (Some a, mid) e)
 else_if_ok room within [] mid rest a found e s = cc (first_is (None, []) (Some a, mid) e)
@@ -145,10 +152,13 @@ if_ok room within ws x e =
     let u = second_is (stmt.If b.0.0 c.0.0, c.0.1) x c.2 in
     let w : g.else_ifs_words s.way (g.else_words o.way x.1) ≡ a.0.1 = cc (s.words_are, o.words_are, u) in
     let l : (let z : Arm = record { test = trees.expr_tree v.test; body = trees.block_tree v.block } in z ∷ trees.else_ifs_tree s.way ≡ b.0.0) =
-        ap (λ h. h ∷ trees.else_ifs_tree s.way) v.tree_is ∙ ap (λ h. a.0.0 ∷ h) s.tree_is ∙ sym m.1 in
-    record { way = g.if_stmt v.test v.block s.way o.way;
-        words_are = ap (λ h. word.If ∷ word.OpenRound ∷ g.expr_words v.test (word.CloseRound ∷ g.block_words v.block h)) w ∙ ap (λ h. word.If ∷ h) v.words_are;
-        tree_is = ap (λ h. stmt.If h (trees.else_tree o.way)) l ∙ ap (λ h. stmt.If b.0.0 h) o.tree_is ∙ t; deep = omega (arith, v.deep, s.deep, o.deep) }
+    ap (λ h. h ∷ trees.else_ifs_tree s.way) v.tree_is ∙ ap (λ h. a.0.0 ∷ h) s.tree_is ∙ sym m.1 in
+    record {
+      way = g.if_stmt v.test v.block s.way o.way;
+      words_are = ap (λ h. word.If ∷ word.OpenRound ∷ g.expr_words v.test (word.CloseRound ∷ g.block_words v.block h)) w ∙ ap (λ h. word.If ∷ h) v.words_are;
+      tree_is = ap (λ h. stmt.If h (trees.else_tree o.way)) l ∙ ap (λ h. stmt.If b.0.0 h) o.tree_is ∙ t;
+      deep = omega (arith, v.deep, s.deep, o.deep);
+    }
 
 pub while_ok : (room : ℕ) → Within SoundInner room → (ws : List Word) (x : Stmt × List Word) → r.while_stmt (inside_of room) ws ≡ Ok x
     → Spelled g.stmt_words trees.stmt_tree trees.stmt_depth room (word.While ∷ ws) x.0 x.1
@@ -157,9 +167,12 @@ while_ok room within ws x e =
     let v = arm_ok room within ws a.0 a.1 in
     let t = first_is (stmt.While a.0.0.test a.0.0.body, a.0.1) x a.2 in
     let u = second_is (stmt.While a.0.0.test a.0.0.body, a.0.1) x a.2 in
-    record { way = g.while_stmt v.test v.block;
-        words_are = ap (λ h. word.While ∷ word.OpenRound ∷ g.expr_words v.test (word.CloseRound ∷ g.block_words v.block h)) (sym u) ∙ ap (λ h. word.While ∷ h) v.words_are;
-        tree_is = ap (λ (h : Arm). stmt.While h.test h.body) v.tree_is ∙ t; deep = v.deep }
+    record {
+      way = g.while_stmt v.test v.block;
+      words_are = ap (λ h. word.While ∷ word.OpenRound ∷ g.expr_words v.test (word.CloseRound ∷ g.block_words v.block h)) (sym u) ∙ ap (λ h. word.While ∷ h) v.words_are;
+      tree_is = ap (λ (h : Arm). stmt.While h.test h.body) v.tree_is ∙ t;
+      deep = v.deep;
+    }
 
 pub record Eached (room : ℕ) (ws : List Word) (x : List ℕ × Expr) (rest : List Word) : Type 0 where
   pub way : ExprWay
@@ -196,9 +209,12 @@ for_ok room within (word.OpenRound ∷ ws) x e =
     let t = first_is (stmt.For a.0.0.0 a.0.0.1 b.0.0, b.0.1) x b.2 in
     let u = second_is (stmt.For a.0.0.0 a.0.0.1 b.0.0, b.0.1) x b.2 in
     let w : g.block_words s.way x.1 ≡ a.0.1 = cc (s.words_are, u) in
-    record { way = g.for_stmt a.0.0.0 v.way s.way;
-        words_are = ap (λ h. word.For ∷ word.OpenRound ∷ word.Let ∷ word.Name a.0.0.0 ∷ word.Of ∷ g.expr_words v.way (word.CloseRound ∷ h)) w ∙ ap (λ h. word.For ∷ word.OpenRound ∷ h) v.words_are;
-        tree_is = ap (λ h. stmt.For a.0.0.0 h (trees.block_tree s.way)) v.tree_is ∙ ap (λ h. stmt.For a.0.0.0 a.0.0.1 h) s.tree_is ∙ t; deep = omega (arith, v.deep, s.deep, o.1) }
+    record {
+      way = g.for_stmt a.0.0.0 v.way s.way;
+      words_are = ap (λ h. word.For ∷ word.OpenRound ∷ word.Let ∷ word.Name a.0.0.0 ∷ word.Of ∷ g.expr_words v.way (word.CloseRound ∷ h)) w ∙ ap (λ h. word.For ∷ word.OpenRound ∷ h) v.words_are;
+      tree_is = ap (λ h. stmt.For a.0.0.0 h (trees.block_tree s.way)) v.tree_is ∙ ap (λ h. stmt.For a.0.0.0 a.0.0.1 h) s.tree_is ∙ t;
+      deep = omega (arith, v.deep, s.deep, o.1);
+    }
 for_ok room within [] x e = cc
 for_ok room within (w ∷ ws) x e = cc
 
@@ -268,8 +284,12 @@ next_stmts_ok room within [] ws rest t = record { way = g.no_stmt; words_are = s
 next_stmts_ok room within (a ∷ found) ws rest t =
     let v = next_stmt_ok room within ws t.0 a t.1 in
     let s = next_stmts_ok room within found t.0 rest t.2 in
-    record { way = g.next_stmt v.way s.way; words_are = ap (λ h. g.stmt_words v.way h) s.words_are ∙ v.words_are;
-        tree_is = ap (λ h. h ∷ trees.stmts_tree s.way) v.tree_is ∙ ap (λ h. a ∷ h) s.tree_is; deep = omega (arith, v.deep, s.deep) }
+    record {
+      way = g.next_stmt v.way s.way;
+      words_are = ap (λ h. g.stmt_words v.way h) s.words_are ∙ v.words_are;
+      tree_is = ap (λ h. h ∷ trees.stmts_tree s.way) v.tree_is ∙ ap (λ h. a ∷ h) s.tree_is;
+      deep = omega (arith, v.deep, s.deep);
+    }
 
 pub stmts_ok : (room : ℕ) → Within SoundInner room → SoundStmts room
 stmts_ok room within ws x e =

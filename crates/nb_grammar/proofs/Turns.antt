@@ -62,6 +62,7 @@ many_ok {A} next stays (suc n) done ws x e = go (λ more mid. many_ok next stays
     turn again (Some a) mid is f =
         let t = again (done ++ a ∷ []) mid f in
         (a ∷ t.0, t.1 ∙ append_assoc done (a ∷ []) t.0, (mid, is, t.2))
+
     go : ((more : List A) (mid : List Word) → many next n more mid ≡ Ok x → Found next x more mid)
         → (y : Option A × List Word) × (next ws ≡ Ok y) × (onward y.0 (Ok (done, y.1)) (λ a. many next n (done ++ a ∷ []) y.1) ≡ Ok x)
         → Found next x done ws

@@ -112,10 +112,10 @@ run_stuck (w ∷ ws) room ss f e = each (λ left new h. run_stuck ws left new f 
         → onto o (Some (Unexpected (length (w ∷ ws)))) (λ new. onto c (Some (TooDeep (suc (length ws)))) (λ left. run ws left new)) ≡ Some f → Stuck room ss (w ∷ ws) f
     each again None c is at e =
         subst (λ g. Stuck room ss (w ∷ ws) g) (some_is (Unexpected (length (w ∷ ws))) f e)
-            ([], w, (room, ss), record { after = ws; words = refl; left = refl }, refl, is)
+        ([], w, (room, ss), record { after = ws; words = refl; left = refl }, refl, is)
     each again (Some new) None is at e =
         subst (λ g. Stuck room ss (w ∷ ws) g) (some_is (TooDeep (suc (length ws))) f e)
-            ([], w, (room, ss), new, record { after = ws; words = refl; left = refl }, refl, is, at)
+        ([], w, (room, ss), new, record { after = ws; words = refl; left = refl }, refl, is, at)
     each again (Some new) (Some left) is at e = stuck_next w ws room left ss new f is at (again left new e)
 
 pub run_refused : (w : Word) (ws : List Word) (room : ℕ) (ss : List Sym) → feed ss w ≡ None → run (w ∷ ws) room ss ≡ Some (Unexpected (length (w ∷ ws)))

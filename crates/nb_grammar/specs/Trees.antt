@@ -15,8 +15,28 @@ use Rattle.nb_syntax.specs.declared.tree.Stmt.TheVariants as stmt
 use Rattle.nb_syntax.specs.declared.tree.Body.{Body}
 use Rattle.nb_syntax.specs.declared.tree.Body.TheVariants as body
 use Rattle.nb_syntax.specs.declared.tree.Cell.{Cell}
-use Rattle.nb_grammar.specs.Reading.{path_of, product_of, sum_of, and_of, or_of}
 use Rattle.nb_grammar.specs.Grammar.{CompareSign, SumSign, ProductSign, UnarySign, KeyWay, ExprWay, OrWay, OrParts, AndWay, AndParts, CompareWay, SumWay, Summands, ProductWay, Factors, UnaryWay, PostfixWay, Steps, PrimaryWay, Items, Pairs, PairWay, BlockWay, Stmts, StmtWay, ElseIfs, ElseWay, BodyWay, CellWay, equal, not_equal, less, less_or_equal, greater, greater_or_equal, plus, minus, times, divide, remainder, negative, not, name_key, quoted_key, plain, choose, or, no_or_part, or_part, and, no_and_part, and_part, single, compare, sum, no_summand, summand, product, no_factor, factor, unsigned, signed, postfix, no_step, field, at, number, quoted, true_word, false_word, null_word, name, call1, call2, call3, fetch, round, no_items, items, no_pairs, pairs, no_item, item, no_pair, next_pair, pair, block, no_stmt, next_stmt, let_stmt, assign_stmt, if_stmt, while_stmt, for_stmt, yield_stmt, return_stmt, throw_stmt, cleanup_stmt, no_else_if, else_if, no_else, else_block, block_body, expr_body, unnamed, named}
+
+-- What stands alone leaves no node.
+abbrev pub path_of : Expr → List PathStep → Expr
+path_of e [] = e
+path_of e (s ∷ ss) = tree.Path e (s ∷ ss)
+
+abbrev pub product_of : Expr → List Operand → Expr
+product_of e [] = e
+product_of e (o ∷ os) = tree.Product e (o ∷ os)
+
+abbrev pub sum_of : Expr → List Operand → Expr
+sum_of e [] = e
+sum_of e (o ∷ os) = tree.Sum e (o ∷ os)
+
+abbrev pub and_of : Expr → List Expr → Expr
+and_of e [] = e
+and_of e (d ∷ ds) = tree.And (e ∷ d ∷ ds)
+
+abbrev pub or_of : Expr → List Expr → Expr
+or_of e [] = e
+or_of e (d ∷ ds) = tree.Or (e ∷ d ∷ ds)
 
 abbrev pub compare_operator : CompareSign → Sign
 compare_operator equal = sign.Equal
