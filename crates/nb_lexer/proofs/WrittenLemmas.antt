@@ -66,7 +66,7 @@ one_written b ok = go (b == 34) refl (b == 92) refl (b == 10) refl (b == 13) ref
     go false e false f false g false h true k = let is : 9 ≡ b = grind (arith, nat_tests) in five tab (ap w.escape is) is
     go false e false f false g false h false k =
         let low : nat_lt b 32 ≡ false = grind (arith, nat_tests) in
-        let fine : is_plain b ≡ true = rw (low, e, f) refl in record { part = plain b fine; text_is = rw (e, f, g, h, k) refl; value_is = refl }
+        let fine : is_plain b ≡ true = rw (low, e, f) refl in record { part = plain b fine; text_is = rw (e, f, g, h, k) (refl {a = b ∷ []}); value_is = refl {a = b} }
 
 -- how a text is written
 pub record AllWritten (x : List ℕ) : Type 0 where

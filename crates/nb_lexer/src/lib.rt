@@ -9,6 +9,8 @@ mod lexer;
 mod name;
 mod number;
 mod quoted;
+#[cfg(test)]
+mod tests;
 mod token;
 mod word;
 mod word_list;
