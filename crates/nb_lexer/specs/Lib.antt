@@ -1,0 +1,5 @@
+pub mod Characters
+pub mod Words
+pub mod Spelling
+pub mod Lexes
+pub mod Faults
