@@ -1,0 +1,7 @@
+//! Reads the text of a cell into its tree.
+#![tactic(auto)]
+
+mod expressions;
+mod functions;
+mod marks;
+mod operators;
