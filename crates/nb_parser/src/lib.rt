@@ -4,4 +4,5 @@
 mod expressions;
 mod functions;
 mod marks;
+mod nodes;
 mod operators;

@@ -1,12 +1,14 @@
 //! Single words: what has to stand next, and how many brackets may open.
 
 ghost use Rattle.std.specs.Prelude.{◌≡◌, ◌<◌, ◌≤◌, ◌+◌, suc, length, IfOk, MatchResult, Some, None};
-ghost use Rattle.nb_grammar.specs.Reading.{Gives, close_round, close_square, close_curly, comma, colon, semicolon, assign, let_word, of_word, fault, inside_of, expr, stmts};
+ghost use Rattle.nb_grammar.specs.Reading.{Gives, close_round, close_square, close_curly, comma, colon, semicolon, assign, let_word, of_word, name, key, fault, inside_of, expr, stmts};
 ghost use Rattle.nb_grammar.specs.declared.fault.Stop.TheVariants as stops;
 ghost use Rattle.nb_grammar.specs.declared.fault.Fault.TheVariants as faults;
 
 use nb_grammar::{Fault, Stop};
 use nb_lexer::Word;
+use nb_value::Text;
+use std::alloc::Global;
 
 /// What it means that none of what may come next stands at the head of these words.
 pub fn fault_at(words: &[Word]) -> Stop
@@ -113,6 +115,28 @@ pub fn of_word(words: &[Word]) -> Result<&[Word], Stop>
 {
     match words {
         [Word::Of, rest @ ..] => Ok(rest),
+        _ => Err(fault_at(words)),
+    }
+}
+
+/// The name at the head, and the words behind it.
+pub fn name(alloc: Global, words: &[Word]) -> Result<(Text, &[Word]), Stop>
+    ensures gives { Gives (λ x. (x.0, x.1.now)) result (name words.now) }
+    ensures shorter { IfOk result (λ x. length x.1.now < length words.now) }
+{
+    match words {
+        [Word::Name(name), rest @ ..] => Ok((name.copy(alloc)?, rest)),
+        _ => Err(fault_at(words)),
+    }
+}
+
+/// The key of a pair at the head, and the words behind it.
+pub fn key(alloc: Global, words: &[Word]) -> Result<(Text, &[Word]), Stop>
+    ensures gives { Gives (λ x. (x.0, x.1.now)) result (key words.now) }
+    ensures shorter { IfOk result (λ x. length x.1.now < length words.now) }
+{
+    match words {
+        [Word::Name(key) | Word::Quoted(key), rest @ ..] => Ok((key.copy(alloc)?, rest)),
         _ => Err(fault_at(words)),
     }
 }
