@@ -3,3 +3,4 @@ pub mod Reading
 pub mod Grammar
 pub mod Law
 pub mod Machine
+pub mod Forms
