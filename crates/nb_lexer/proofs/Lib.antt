@@ -1,0 +1,15 @@
+pub mod Runs
+pub mod NumberLemmas
+pub mod QuotedLemmas
+pub mod TextLemmas
+pub mod FixedLemmas
+pub mod Cases
+pub mod Spelled
+pub mod Complete
+pub mod FaultLemmas
+pub mod Sound
+pub mod TokenLemmas
+pub mod Reached
+pub mod Same
+pub mod Spans
+pub mod WordLemmas

@@ -11,6 +11,9 @@ is_letter b = (nat_lt 96 b && nat_lt b 123) || (nat_lt 64 b && nat_lt b 91) || (
 abbrev pub is_in_name : ℕ → Bool
 is_in_name b = is_letter b || is_digit b
 
+abbrev pub is_quote : ℕ → Bool
+is_quote b = b == 34
+
 -- a space, a tab, a line feed or a carriage return
 abbrev pub is_gap : ℕ → Bool
 is_gap b = (b == 32) || (b == 9) || (b == 10) || (b == 13)

@@ -1,26 +1,26 @@
 -- The first fault of a text, from the left.
-use Rattle.std.specs.Prelude.{◌≡◌, ◌≤◌, ◌<◌, ◌+◌, ◌⊎◌, ◌≢◌, ℕ, nat_eq, true, false, Bool, List, [], ◌∷◌, ◌++◌, length, Result, Ok, Err}
-use Rattle.std.specs.List.{list_any, starts_with}
+use Rattle.std.specs.Prelude.{◌≡◌, ◌≤◌, ◌<◌, ◌+◌, ◌⊎◌, ◌≢◌, ℕ, true, false, List, [], ◌∷◌, ◌++◌, length, Result, Ok, Err, None}
 use Rattle.std.specs.Str.Parse.{digits_value}
 use Rattle.nb_lexer.specs.declared.word.Word.{Word}
 use Rattle.nb_lexer.specs.declared.fault.LexError.{LexError}
 use Rattle.nb_lexer.specs.declared.fault.LexError.TheVariants.{BadCharacter, OpenText, BadEscape, TooWide, Memory}
-use Rattle.nb_lexer.specs.Characters.{is_digit, is_letter, is_in_name}
-use Rattle.nb_lexer.specs.Words.{fixed_text, signs}
+use Rattle.nb_lexer.specs.Characters.{is_digit, is_letter, is_in_name, is_gap}
+use Rattle.nb_lexer.specs.Words.{sign}
 use Rattle.nb_lexer.specs.Spelling.{is_numeral, too_wide, Escape, letter, Part, parts_text}
 use Rattle.nb_lexer.specs.Lexes.{Placed, Leads}
 
 -- In all of these, text is what stands from the place at on.
 
--- A character that begins no token: no letter, digit, quote or sign. A single `&` or `|` is no sign.
+-- A character that begins no token and is no gap: no letter, digit, quote or sign. A single `&` or `|` is no sign.
 pub record IsStray (at : ℕ) (text : List ℕ) (place : ℕ) : Type 0 where
   pub first : ℕ
   pub more : List ℕ
   pub text_is : text ≡ first ∷ more
+  pub no_gap : is_gap first ≡ false
   pub no_letter : is_letter first ≡ false
   pub no_digit : is_digit first ≡ false
   pub no_quote : first ≢ 34
-  pub no_sign : list_any (λ w. starts_with nat_eq text (fixed_text w)) signs ≡ false
+  pub no_sign : sign text ≡ None
   pub place_is : place ≡ at
 
 -- A digit, letter, `_` or `$` right behind a number, which doesn't go on with it.

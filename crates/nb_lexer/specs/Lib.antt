@@ -3,3 +3,4 @@ pub mod Words
 pub mod Spelling
 pub mod Lexes
 pub mod Faults
+pub mod Scan

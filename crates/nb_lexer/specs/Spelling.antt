@@ -1,6 +1,6 @@
 -- How each word is spelled, and when it ends.
-use Rattle.std.specs.Prelude.{◌≡◌, ◌<◌, ◌^◌, ℕ, ℤ, ◌==◌, pos, Bool, true, false, not, ◌&&◌, ◌||◌, List, [], ◌∷◌, ◌++◌, nat_lt, map, codes}
-use Rattle.std.specs.List.{list_all, list_any, flat_map}
+use Rattle.std.specs.Prelude.{◌≡◌, ◌<◌, ◌^◌, ℕ, ℤ, ◌==◌, pos, Bool, true, false, not, ◌&&◌, ◌||◌, List, [], ◌∷◌, ◌++◌, nat_lt, is_none, map, codes}
+use Rattle.std.specs.List.{list_all, flat_map}
 use Rattle.std.specs.Str.{bytes_eq}
 use Rattle.std.specs.Str.Parse.{digits_value}
 use Rattle.nb_lexer.specs.declared.word.Word.{Word}
@@ -8,16 +8,13 @@ use Rattle.nb_lexer.specs.declared.word.Word.TheVariants as word
 use Rattle.nb_lexer.specs.declared.token.TokenKind.{TokenKind}
 use Rattle.nb_lexer.specs.declared.token.TokenKind.TheVariants as kind
 use Rattle.nb_lexer.specs.Characters.{is_digit, is_letter, is_in_name, begins}
-use Rattle.nb_lexer.specs.Words.{fixed_text, keywords, kind_of}
+use Rattle.nb_lexer.specs.Words.{fixed_text, keyword, kind_of}
 
 -- ---- names
 
-unfoldable pub is_keyword : List ℕ → Bool
-is_keyword x = list_any (λ w. bytes_eq x (fixed_text w)) keywords
-
 -- a letter, then letters and digits, and no keyword
 abbrev pub is_name : List ℕ → Bool
-is_name x = begins is_letter x && list_all is_in_name x && not (is_keyword x)
+is_name x = begins is_letter x && list_all is_in_name x && is_none (keyword x)
 
 -- ---- numbers
 

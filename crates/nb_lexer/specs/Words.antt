@@ -1,5 +1,7 @@
 -- The keywords and the signs, and what kind of token each word is.
-use Rattle.std.specs.Prelude.{ℕ, List, [], ◌∷◌, codes}
+use Rattle.std.specs.Prelude.{ℕ, nat_eq, List, [], ◌∷◌, codes, Option}
+use Rattle.std.specs.List.{find, starts_with}
+use Rattle.std.specs.Str.{bytes_eq}
 use Rattle.nb_lexer.specs.declared.word.Word.{Word}
 use Rattle.nb_lexer.specs.declared.word.Word.TheVariants as word
 use Rattle.nb_lexer.specs.declared.token.TokenKind.{TokenKind}
@@ -54,12 +56,21 @@ keywords =
     word.Let ∷ word.If ∷ word.Else ∷ word.While ∷ word.For ∷ word.Of ∷ word.Yield
     ∷ word.Return ∷ word.Throw ∷ word.Cleanup ∷ word.Fetch ∷ word.True ∷ word.False ∷ word.Null ∷ []
 
+-- the longer ones first
 abbrev pub signs : List Word
 signs =
-    word.Plus ∷ word.Minus ∷ word.Times ∷ word.Divide ∷ word.Remainder ∷ word.OpenRound ∷ word.CloseRound
+    word.Equal ∷ word.NotEqual ∷ word.LessOrEqual ∷ word.GreaterOrEqual ∷ word.And ∷ word.Or
+    ∷ word.Plus ∷ word.Minus ∷ word.Times ∷ word.Divide ∷ word.Remainder ∷ word.OpenRound ∷ word.CloseRound
     ∷ word.OpenSquare ∷ word.CloseSquare ∷ word.OpenCurly ∷ word.CloseCurly ∷ word.Comma ∷ word.Colon ∷ word.Semicolon
-    ∷ word.Dot ∷ word.Assign ∷ word.Equal ∷ word.NotEqual ∷ word.Less ∷ word.LessOrEqual
-    ∷ word.Greater ∷ word.GreaterOrEqual ∷ word.And ∷ word.Or ∷ word.Not ∷ word.Question ∷ []
+    ∷ word.Dot ∷ word.Assign ∷ word.Less ∷ word.Greater ∷ word.Not ∷ word.Question ∷ []
+
+-- the keyword that these bytes spell
+unfoldable pub keyword : List ℕ → Option Word
+keyword s = find (λ w. bytes_eq s (fixed_text w)) keywords
+
+-- the longest sign at the front
+unfoldable pub sign : List ℕ → Option Word
+sign text = find (λ w. starts_with nat_eq text (fixed_text w)) signs
 
 abbrev pub kind_of : Word → TokenKind
 kind_of (word.Name x) = kind.Name
