@@ -170,10 +170,7 @@ fn copy_members(members: &Items<Member>, alloc: Global) -> Result<Items<Member>,
 }
 
 #[cycle(copy)]
-fn copy_operands(
-    operands: &Items<Operand>,
-    alloc: Global,
-) -> Result<Items<Operand>, AllocError>
+fn copy_operands(operands: &Items<Operand>, alloc: Global) -> Result<Items<Operand>, AllocError>
     ensures { IfOk result (λ v. v ≡ operands.now) }
 {
     let mut copies = Items::new(alloc);
