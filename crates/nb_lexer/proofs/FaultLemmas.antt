@@ -91,18 +91,31 @@ wide_len : (digits more : List ℕ) → begins is_first_digit digits ≡ true �
 wide_len [] more first all = absurd (false≢true first)
 wide_len (b ∷ digits) more first all = let some : (b == 48) ≡ false = grind (arith, nat_tests) in rw some (run_least is_digit (b ∷ digits) more all)
 
+wide_digit : (text : List ℕ) (at place : ℕ) → IsWide at text place → begins is_digit text ≡ true
+wide_digit text at place h = ap (begins is_digit) h.text_is ∙ begins-append is_digit h.digits h.more (numeral_digit h.digits h.numeral)
+
+-- the whole number is too wide where the front of its digits is
+wide_value : (text : List ℕ) (at place : ℕ) → IsWide at text place → too_wide ≤ digits_value 10 (take (numeral_len text) text)
+wide_value text at place h = least (numeral_len text) long
+  where
+    long : length h.digits ≤ numeral_len text
+    long = subst (λ t. length h.digits ≤ numeral_len t) (sym h.text_is) (wide_len h.digits h.more (wide_first h.digits h.numeral h.wide) (numeral_passes h.digits h.numeral))
+    least : (n : ℕ) → length h.digits ≤ n → too_wide ≤ digits_value 10 (take n text)
+    least n enough =
+        let same : take (length h.digits) (take n text) ≡ h.digits = take-take (length h.digits) n text enough ∙ ap (take (length h.digits)) h.text_is ∙ take_at h.digits h.more (length h.digits) refl in
+        let more : digits_value 10 h.digits ≤ digits_value 10 (take n text) =
+            subst (λ ds. digits_value 10 ds ≤ digits_value 10 (take n text)) same (digits_value-take-le 10 (take n text) (length h.digits) (omega arith)) in
+        let wide = h.wide in omega (arith, wide, more)
+
+wide_checked : (at n value : ℕ) (more : Bool) → too_wide ≤ value → checked at n value more ≡ Err (TooWide at)
+wide_checked at n value more wide =
+    let no_fit : nat_lt value too_wide ≡ false = grind (arith, nat_tests) in
+    ap (λ b. cond b (cond more (Err (BadCharacter (at + n))) (Ok (word.Number (pos value), at + n))) (Err (TooWide at))) no_fit
+
 wide_fails : (at : ℕ) (text : List ℕ) (place : ℕ) → IsWide at text place → Fails at text (TooWide place)
 wide_fails at text place h =
-    let n = numeral_len text in
-    let digit : begins is_digit text ≡ true = ap (begins is_digit) h.text_is ∙ begins-append is_digit h.digits h.more (numeral_digit h.digits h.numeral) in
-    let long : length h.digits ≤ n = subst (λ t. length h.digits ≤ numeral_len t) (sym h.text_is) (wide_len h.digits h.more (wide_first h.digits h.numeral h.wide) (numeral_passes h.digits h.numeral)) in
-    let same : take (length h.digits) (take n text) ≡ h.digits = take-take (length h.digits) n text long ∙ ap (take (length h.digits)) h.text_is ∙ take_at h.digits h.more (length h.digits) refl in
-    let least : digits_value 10 h.digits ≤ digits_value 10 (take n text) =
-        subst (λ ds. digits_value 10 ds ≤ digits_value 10 (take n text)) same (digits_value-take-le 10 (take n text) (length h.digits) (omega arith)) in
-    let wide = h.wide in
-    let no_fit : nat_lt (digits_value 10 (take n text)) too_wide ≡ false = grind (arith, nat_tests) in
-    begins_digit at text digit
-    ∙ ap (λ b. cond b (cond (begins is_in_name (drop n text)) (Err (BadCharacter (at + n))) (Ok (word.Number (pos (digits_value 10 (take n text))), at + n))) (Err (TooWide at))) no_fit
+    begins_digit at text (wide_digit text at place h)
+    ∙ wide_checked at (numeral_len text) (digits_value 10 (take (numeral_len text) text)) (begins is_in_name (drop (numeral_len text) text)) (wide_value text at place h)
     ∙ ap (λ m. let r : Found Word = Err (TooWide m) in r) (sym h.place_is)
 
 -- ---- quoted texts

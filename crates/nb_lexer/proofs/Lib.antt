@@ -13,3 +13,5 @@ pub mod Reached
 pub mod Same
 pub mod Spans
 pub mod WordLemmas
+pub mod WrittenLemmas
+pub mod Total

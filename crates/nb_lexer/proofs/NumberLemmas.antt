@@ -14,7 +14,7 @@ use Rattle.nb_lexer.specs.Spelling.{too_wide}
 use Rattle.nb_lexer.specs.Scan.{numeral_len}
 use Rattle.nb_lexer.proofs.Runs.{run_passes, passes_ascii, digit_ascii}
 
-own : IsNumeralModel (λ ds. list_all is_digit ds ≡ true) (digits_value 10)
+pub own : IsNumeralModel (λ ds. list_all is_digit ds ≡ true) (digits_value 10)
 own = numerals_by_value _ (search rules)
 
 pub digits_utf8 : (ds : List ℕ) → list_all is_digit ds ≡ true → IsUtf8 ds

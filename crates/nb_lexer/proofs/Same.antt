@@ -143,6 +143,9 @@ one_reading text ts us ws vs r s =
     let same = one_list text r.placed s.placed r.lexes s.lexes in
     (sym r.tokens_are ∙ ap (map token_of) same ∙ s.tokens_are, sym r.words_are ∙ ap (map word_of) same ∙ s.words_are)
 
+pub tokens_or_fault : (text : List ℕ) (ts : List Token) (e : LexError) → AreTokens text ts → IsFault text e → ⊥
+tokens_or_fault text ts e h f = never_both text h.1.placed e h.1.lexes f
+
 -- ---- what a call answers
 
 pub only_tokens : (text : List ℕ) (r : Result (List Token) LexError) → IfOk r (AreTokens text) → IfErr r (Refuses text) → (ts : List Token) → AreTokens text ts → UnlessMemory r (r ≡ Ok ts)

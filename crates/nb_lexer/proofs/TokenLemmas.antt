@@ -16,7 +16,7 @@ use Rattle.nb_lexer.specs.Scan.{Found, front, kind_found, Gives, Stands, FaultsA
 use Rattle.nb_lexer.proofs.Spelled.{spelling_some, spelling_cut}
 use Rattle.nb_lexer.proofs.Sound.{Spelled, IsRight, front_right}
 
-stands : (at : ℕ) (text : List ℕ) (w : Word) (kind : TokenKind) (end : ℕ) → kind_of w ≡ kind → IsUtf8 text → Spelled at text w end → Stands at text (record { kind = kind; start = at; end = end })
+pub stands : (at : ℕ) (text : List ℕ) (w : Word) (kind : TokenKind) (end : ℕ) → kind_of w ≡ kind → IsUtf8 text → Spelled at text w end → Stands at text (record { kind = kind; start = at; end = end })
 stands at text w kind end is u h =
     let some : 0 < length h.spelling = spelling_some w h.spelling h.spells in
     let len : length text ≡ length h.spelling + length h.behind = ap length h.text_is ∙ length-append h.spelling h.behind in

@@ -56,6 +56,10 @@ pub record Reads (text : List ℕ) (tokens : List Token) (words : List Word) : T
 abbrev pub AreTokens : List ℕ → List Token → Type 0
 AreTokens text tokens = (words : List Word) × Reads text tokens words
 
+-- a text whose words are these
+abbrev pub HasWords : List ℕ → List Word → Type 0
+HasWords text words = (tokens : List Token) × Reads text tokens words
+
 -- ---- places
 
 -- The text may be cut at both ends of the token, and what stands between them spells a word of its kind.

@@ -4,3 +4,4 @@ pub mod Spelling
 pub mod Lexes
 pub mod Faults
 pub mod Scan
+pub mod Written
