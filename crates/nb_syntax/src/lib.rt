@@ -1,6 +1,8 @@
 //! The trees of cells: their copies, their printed text and their free names.
 #![tactic(auto)]
 
+#[cfg(test)]
+mod builders;
 mod copy;
 mod copy_stmt;
 mod free;
@@ -18,6 +20,8 @@ mod printing;
 mod quoted;
 mod scope;
 mod sums;
+#[cfg(test)]
+mod tests;
 mod tree;
 
 pub use free::{Names, free_names};
