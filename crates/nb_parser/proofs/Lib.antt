@@ -1,0 +1,4 @@
+pub mod Scanned
+pub mod CellLaws
+pub mod Places
+pub mod Total
