@@ -18,8 +18,9 @@ use std::alloc::Global;
 /// The most brackets that may be open at once.
 const ROOM: u8 = 64;
 
-/// The cell that the words spell, with at most 64 brackets open at any place. It fails with the first fault where they spell
-/// none, and with `Memory` where memory runs out. It takes time and memory linear in the words and their texts.
+/// The cell that the words spell, with at most 64 brackets open at any place. It fails with the first fault where
+/// they spell none, and with `Memory` where memory runs out. It takes time and memory linear in the words and
+/// their texts.
 pub fn cell_of_words(alloc: Global, words: &[Word]) -> Result<Cell, Stop>
     ensures gives { Gives (λ c. c) result (whole 64 words.now) }
     ensures comes { Comes 64 words.now result }
