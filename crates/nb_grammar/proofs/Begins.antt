@@ -4,9 +4,10 @@ use Rattle.nb_lexer.specs.declared.word.Word.{Word}
 use Rattle.nb_lexer.specs.declared.word.Word.TheVariants as word
 use Rattle.nb_syntax.specs.declared.tree.Expr.{Expr}
 use Rattle.nb_grammar.specs.Reading as r
-use Rattle.nb_grammar.specs.Reading.{Read, ◌>>=◌, many, rounds, onward, inside_of, Inside, Inner, fault, Gives}
+use Rattle.nb_grammar.specs.Reading.{Read, ◌>>=◌, many, onward, inside_of, Inside}
 use Rattle.nb_grammar.specs.Grammar as g
-use Rattle.nb_grammar.specs.Grammar.{ExprWay, OrWay, OrParts, AndWay, AndParts, CompareWay, SumWay, Summands, ProductWay, Factors, UnaryWay, PostfixWay, Steps, PrimaryWay, Items, Pairs, PairWay, KeyWay, BlockWay, Stmts, StmtWay, ElseIfs, ElseWay, BodyWay, CellWay, CompareSign, SumSign, ProductSign, UnarySign}
+use Rattle.nb_grammar.specs.Trees as trees
+use Rattle.nb_grammar.specs.Grammar.{ExprWay, OrWay, AndWay, CompareWay, SumWay, ProductWay, UnaryWay, PostfixWay, PrimaryWay, KeyWay, Stmts}
 
 -- A word that goes on what stands before it at a level, tighter ones with greater numbers; 0 where it goes on nothing.
 abbrev pub binds : Word → ℕ
@@ -133,10 +134,10 @@ abbrev pub Complete : {D T : Type 0} → (List Word → Read T) → (D → List 
 Complete {D} read words tree depth room k = (d : D) (rest : List Word) → depth d ≤ room → Stops k rest → read (words d rest) ≡ Ok (tree d, rest)
 
 abbrev pub CompleteExpr : ℕ → Type 0
-CompleteExpr room = Complete (r.expr (inside_of room)) g.expr_words g.expr_tree g.expr_depth room 1
+CompleteExpr room = Complete (r.expr (inside_of room)) g.expr_words trees.expr_tree trees.expr_depth room 1
 
 abbrev pub CompleteStmts : ℕ → Type 0
-CompleteStmts room = (d : Stmts) (rest : List Word) → g.stmts_depth d ≤ room → r.stmts (inside_of room) (g.stmts_words d (word.CloseCurly ∷ rest)) ≡ Ok (g.stmts_tree d, rest)
+CompleteStmts room = (d : Stmts) (rest : List Word) → trees.stmts_depth d ≤ room → r.stmts (inside_of room) (g.stmts_words d (word.CloseCurly ∷ rest)) ≡ Ok (trees.stmts_tree d, rest)
 
 abbrev pub CompleteInner : ℕ → Type 0
 CompleteInner room = CompleteExpr room × CompleteStmts room

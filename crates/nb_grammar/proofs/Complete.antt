@@ -5,9 +5,10 @@ use Rattle.nb_lexer.specs.declared.word.Word.TheVariants as word
 use Rattle.nb_syntax.specs.declared.tree.Body.TheVariants as body
 use Rattle.nb_syntax.specs.declared.tree.Cell.{Cell}
 use Rattle.nb_grammar.specs.Reading as r
-use Rattle.nb_grammar.specs.Reading.{Read, ◌>>=◌, many, rounds, onward, inside_of, Inside, Inner, fault, Gives}
+use Rattle.nb_grammar.specs.Reading.{Read, ◌>>=◌, inside_of, Inside}
 use Rattle.nb_grammar.specs.Grammar as g
-use Rattle.nb_grammar.specs.Grammar.{ExprWay, OrWay, OrParts, AndWay, AndParts, CompareWay, SumWay, Summands, ProductWay, Factors, UnaryWay, PostfixWay, Steps, PrimaryWay, Items, Pairs, PairWay, KeyWay, BlockWay, Stmts, StmtWay, ElseIfs, ElseWay, BodyWay, CellWay, CompareSign, SumSign, ProductSign, UnarySign}
+use Rattle.nb_grammar.specs.Trees as trees
+use Rattle.nb_grammar.specs.Grammar.{ExprWay, OrWay, OrParts, AndParts, CompareWay, SumWay, Summands, Factors, UnaryWay, Steps, PrimaryWay, StmtWay, BodyWay, CellWay, CompareSign}
 use Rattle.nb_grammar.proofs.CompleteStmts.{block_again, complete, complete_within}
 
 -- What begins as an expression is read as one.
@@ -60,7 +61,7 @@ body_stmt inside (g.return_stmt e) ws = refl
 body_stmt inside (g.throw_stmt e) ws = refl
 body_stmt inside (g.cleanup_stmt e) ws = refl
 
-pub body_again : (room : ℕ) (b : BodyWay) → g.body_depth b ≤ room → r.body_at (inside_of room) (g.body_words b []) ≡ Ok (g.body_tree b, [])
+pub body_again : (room : ℕ) (b : BodyWay) → trees.body_depth b ≤ room → r.body_at (inside_of room) (g.body_words b []) ≡ Ok (trees.body_tree b, [])
 body_again room (g.block_body s more) deep =
     body_stmt (inside_of room) s (g.stmts_words more (word.CloseCurly ∷ []))
     ∙ ap (λ m. m >>= (λ b. Ok (body.Block b.0, b.1))) (block_again room (complete_within room) (g.block (g.next_stmt s more)) [] deep)
@@ -144,7 +145,7 @@ cell_body inside (g.block_body s more) = refl
 cell_body inside (g.expr_body (g.plain o)) = cell_or inside o [] tt
 cell_body inside (g.expr_body (g.choose c a b)) = cell_or inside c (word.Question ∷ g.or_words a (word.Colon ∷ g.or_words b [])) tt
 
-pub cell_again : (room : ℕ) (c : CellWay) → g.cell_depth c ≤ room → r.cell (inside_of room) (g.cell_words c []) ≡ Ok (g.cell_tree c, [])
+pub cell_again : (room : ℕ) (c : CellWay) → trees.cell_depth c ≤ room → r.cell (inside_of room) (g.cell_words c []) ≡ Ok (trees.cell_tree c, [])
 cell_again room (g.unnamed b) deep =
     cell_body (inside_of room) b ∙ ap (λ m. m >>= (λ y. (let z : Read Cell = Ok (record { name = None; body = y.0 }, y.1) in z))) (body_again room b deep)
 cell_again room (g.named x b) deep = ap (λ m. m >>= (λ y. (let z : Read Cell = Ok (record { name = Some x; body = y.0 }, y.1) in z))) (body_again room b deep)

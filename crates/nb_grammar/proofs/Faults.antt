@@ -5,13 +5,12 @@ use Rattle.nb_syntax.specs.declared.tree.Cell.{Cell}
 use Rattle.nb_grammar.specs.declared.fault.Fault.{Fault}
 use Rattle.nb_grammar.specs.declared.fault.Fault.TheVariants.{Unexpected, Ended, TooDeep}
 use Rattle.nb_grammar.specs.Reading as r
-use Rattle.nb_grammar.specs.Reading.{Read, ◌>>=◌, many, rounds, onward, inside_of, Inside, Inner, fault, Gives}
-use Rattle.nb_grammar.specs.Grammar as g
-use Rattle.nb_grammar.specs.Grammar.{ExprWay, OrWay, OrParts, AndWay, AndParts, CompareWay, SumWay, Summands, ProductWay, Factors, UnaryWay, PostfixWay, Steps, PrimaryWay, Items, Pairs, PairWay, KeyWay, BlockWay, Stmts, StmtWay, ElseIfs, ElseWay, BodyWay, CellWay, CompareSign, SumSign, ProductSign, UnarySign}
+use Rattle.nb_grammar.specs.Reading.{Read, ◌>>=◌, inside_of}
+use Rattle.nb_grammar.specs.Trees as trees
 use Rattle.nb_grammar.specs.Law as law
-use Rattle.nb_grammar.specs.Law.{Spells, Comes, Continues, Splits, HasRoom, IsFault, IsRead, left_after, Turn, turn, counted, onto}
+use Rattle.nb_grammar.specs.Law.{Spells, Continues, IsFault, left_after, Turn, turn, counted, onto}
 use Rattle.nb_grammar.specs.Machine as m
-use Rattle.nb_grammar.specs.Machine.{Sym, Level, run, want, arguments, more_steps, more_factors, more_summands, more_compare, more_and, more_or, more_choice, first_item, more_items, first_pair, more_pairs, need_name, need_key, need_let, need_of, need_open_round, need_close_round, need_comma, need_colon, need_semicolon, need_assign, need_close_square, more_stmts, more_else, after_else, body_brace, brace_name, cell_name, tails, more_arguments, feed}
+use Rattle.nb_grammar.specs.Machine.{Sym, run, feed}
 use Rattle.nb_grammar.proofs.SoundStmts.{within}
 use Rattle.nb_grammar.proofs.Sound.{cell_ok}
 use Rattle.nb_grammar.proofs.Complete.{cell_again}
@@ -36,7 +35,7 @@ accepts room ws h = each (r.cell (inside_of room) ws) refl (sym (cell_runs room 
 
 pub again : (n room : ℕ) (ws : List Word) (c : Cell) → Spells n ws c → n ≤ room → r.cell (inside_of room) ws ≡ Ok (c, [])
 again n room ws c s le =
-    let d : g.cell_depth s.way ≤ room = omega (arith, s.deep) in
+    let d : trees.cell_depth s.way ≤ room = omega (arith, s.deep) in
     ap (λ h. r.cell (inside_of room) h) (sym s.words) ∙ cell_again room s.way d ∙ ap (λ h. Ok (h, [])) s.tree_is
 
 spelled_runs : (n room : ℕ) (ws : List Word) (c : Cell) → Spells n ws c → n ≤ room → run ws room begin ≡ None
@@ -62,8 +61,8 @@ goes_on room before w x new e f =
     let c = counted_with (turn w) x.0 (opens_in new) in
     let b : run (before ++ w ∷ rest) (room + k) begin ≡ run (w ∷ rest) (x.0 + k) x.1 = run_walk before (room + k) begin (x.0 + k, x.1) (walk_more before room begin x k e) (w ∷ rest) in
     let d : run (w ∷ rest) (x.0 + k) x.1 ≡ run rest c.0 new =
-        ap (λ o. onto o (Some (Unexpected (length (w ∷ rest)))) (λ new. onto (counted (turn w) (x.0 + k)) (Some (TooDeep (suc (length rest)))) (λ left. run rest left new))) f
-        ∙ ap (λ o. onto o (Some (TooDeep (suc (length rest)))) (λ left. run rest left new)) c.1 in
+    ap (λ o. onto o (Some (Unexpected (length (w ∷ rest)))) (λ new. onto (counted (turn w) (x.0 + k)) (Some (TooDeep (suc (length rest)))) (λ left. run rest left new))) f
+    ∙ ap (λ o. onto o (Some (TooDeep (suc (length rest)))) (λ left. run rest left new)) c.1 in
     let i : (before ++ w ∷ []) ++ rest ≡ before ++ w ∷ rest = append_assoc before (w ∷ []) rest in
     let a = accepts (room + k) ((before ++ w ∷ []) ++ rest) (ap (λ h. run h (room + k) begin) i ∙ b ∙ d ∙ finishes new c.0 c.2) in
     (rest, a.0, room + k, a.1)
@@ -113,10 +112,13 @@ is_stuck room ws (Unexpected n) s = each (feed x.0.1 w) refl
   where
     before : List Word
     before = s.0
+
     w : Word
     w = s.1
+
     x : (x : ℕ × List Sym) × (walk before room begin ≡ Some x)
     x = walks_on room s.5.0 before s.3 s.5.1
+
     each : (o : Option (List Sym)) → feed x.0.1 w ≡ o → Stuck room begin ws (Unexpected n)
     each None is = (before, w, x.0, s.2, x.1, is)
     each (Some new) is = absurd (s.4 (goes_on room before w x.0 new x.1 is))
@@ -124,6 +126,7 @@ is_stuck room ws Ended s = each (m.done x.0.1) refl
   where
     x : (x : ℕ × List Sym) × (walk ws room begin ≡ Some x)
     x = walks_on room s.2.0 ws s.0 s.2.1
+
     each : (b : Bool) → m.done x.0.1 ≡ b → Stuck room begin ws Ended
     each false is = (x.0, x.1, is)
     each true is =
@@ -133,10 +136,13 @@ is_stuck room ws (TooDeep n) s = each (feed x.0.1 w) refl
   where
     before : List Word
     before = s.0
+
     w : Word
     w = s.1
+
     x : (x : ℕ × List Sym) × (walk before room begin ≡ Some x)
     x = walks_on room 0 before (continues_before before w s.3) s.4
+
     each : (o : Option (List Sym)) → feed x.0.1 w ≡ o → Stuck room begin ws (TooDeep n)
     each None is = absurd (no_more room before w x.0 x.1 is s.3)
     each (Some new) is =

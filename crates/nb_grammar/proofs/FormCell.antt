@@ -9,75 +9,76 @@ use Rattle.nb_syntax.specs.declared.tree.Body.{Body}
 use Rattle.nb_syntax.specs.declared.tree.Body.TheVariants as body
 use Rattle.nb_syntax.specs.declared.tree.Cell.{Cell}
 use Rattle.nb_grammar.specs.Grammar as g
-use Rattle.nb_grammar.specs.Grammar.{ExprWay, OrWay, OrParts, AndWay, AndParts, CompareWay, SumWay, Summands, ProductWay, Factors, UnaryWay, PostfixWay, Steps, PrimaryWay, Items, Pairs, PairWay, KeyWay, BlockWay, Stmts, StmtWay, ElseIfs, ElseWay, BodyWay, CellWay, CompareSign, SumSign, ProductSign, UnarySign}
+use Rattle.nb_grammar.specs.Trees as trees
+use Rattle.nb_grammar.specs.Grammar.{ExprWay, BlockWay, Stmts, StmtWay, ElseIfs, ElseWay, BodyWay, CellWay}
 use Rattle.nb_grammar.specs.Forms as f
-use Rattle.nb_grammar.specs.Forms.{Forms, of_primary, of_expr, of_or, of_and, of_compare, of_sum, of_product, of_unary, of_postfix, as_compare, as_sum, as_product, as_unary, or_parts_of, and_parts_of, summands_of, factors_of, steps_of, items_of, pairs_of, list_of, record_of, truth_of, call_of, expr_step, path_step, member_step, operand_step, forms, step_forms, member_forms, operand_forms, stmts_of, else_ifs_of, else_of, stmt_step, arm_step, block_step, stmt_form, arm_form, block_form, body_form, cell_form, printed}
+use Rattle.nb_grammar.specs.Forms.{forms, stmts_of, else_ifs_of, else_of, stmt_form, arm_form, block_form, body_form, cell_form}
 use Rattle.nb_grammar.proofs.FormLaws.{stmt_form-Let, stmt_form-Assign, stmt_form-While, stmt_form-For, stmt_form-Yield, stmt_form-Return, stmt_form-Throw, stmt_form-Cleanup, other_form, stmt_form-If, arm_is, block_is}
 use Rattle.nb_grammar.proofs.FormExpr.{expr_fine}
 
-arm_fine : (e : ExprWay) (b : BlockWay) → g.block_tree (block_form (g.block_tree b)) ≡ g.block_tree b
-    → (let z : Arm = record { test = g.expr_tree (forms (g.expr_tree e)).expr; body = g.block_tree (block_form (g.block_tree b)) } in z) ≡ record { test = g.expr_tree e; body = g.block_tree b }
+arm_fine : (e : ExprWay) (b : BlockWay) → trees.block_tree (block_form (trees.block_tree b)) ≡ trees.block_tree b
+    → (let z : Arm = record { test = trees.expr_tree (forms (trees.expr_tree e)).expr; body = trees.block_tree (block_form (trees.block_tree b)) } in z) ≡ record { test = trees.expr_tree e; body = trees.block_tree b }
 arm_fine e b is =
-    ap (λ (h : Expr). let z : Arm = record { test = h; body = g.block_tree (block_form (g.block_tree b)) } in z) (expr_fine e).expr_is
-    ∙ ap (λ (h : Block). let z : Arm = record { test = g.expr_tree e; body = h } in z) is
+    ap (λ (h : Expr). let z : Arm = record { test = h; body = trees.block_tree (block_form (trees.block_tree b)) } in z) (expr_fine e).expr_is
+    ∙ ap (λ (h : Block). let z : Arm = record { test = trees.expr_tree e; body = h } in z) is
 
 mutual
-  pub block_fine : (d : BlockWay) → g.block_tree (block_form (g.block_tree d)) ≡ g.block_tree d
+  pub block_fine : (d : BlockWay) → trees.block_tree (block_form (trees.block_tree d)) ≡ trees.block_tree d
   block_fine (g.block more) =
-      ap g.block_tree (block_is (g.block_tree (g.block more))) ∙ ap (λ (h : List Stmt). let z : Block = record { stmts = h } in z) (stmts_fine more)
+      ap trees.block_tree (block_is (trees.block_tree (g.block more))) ∙ ap (λ (h : List Stmt). let z : Block = record { stmts = h } in z) (stmts_fine more)
 
-  pub stmts_fine : (d : Stmts) → g.stmts_tree (stmts_of (map stmt_form (g.stmts_tree d))) ≡ g.stmts_tree d
+  pub stmts_fine : (d : Stmts) → trees.stmts_tree (stmts_of (map stmt_form (trees.stmts_tree d))) ≡ trees.stmts_tree d
   stmts_fine g.no_stmt = refl
   stmts_fine (g.next_stmt s more) =
-      ap (λ (h : Stmt). h ∷ g.stmts_tree (stmts_of (map stmt_form (g.stmts_tree more)))) (stmt_fine s)
-      ∙ ap (λ (h : List Stmt). g.stmt_tree s ∷ h) (stmts_fine more)
+      ap (λ (h : Stmt). h ∷ trees.stmts_tree (stmts_of (map stmt_form (trees.stmts_tree more)))) (stmt_fine s)
+      ∙ ap (λ (h : List Stmt). trees.stmt_tree s ∷ h) (stmts_fine more)
 
-  pub stmt_fine : (d : StmtWay) → g.stmt_tree (stmt_form (g.stmt_tree d)) ≡ g.stmt_tree d
-  stmt_fine (g.let_stmt x e) = ap g.stmt_tree (stmt_form-Let x (g.expr_tree e)) ∙ ap (λ (h : Expr). stmt.Let x h) (expr_fine e).expr_is
-  stmt_fine (g.assign_stmt x e) = ap g.stmt_tree (stmt_form-Assign x (g.expr_tree e)) ∙ ap (λ (h : Expr). stmt.Assign x h) (expr_fine e).expr_is
+  pub stmt_fine : (d : StmtWay) → trees.stmt_tree (stmt_form (trees.stmt_tree d)) ≡ trees.stmt_tree d
+  stmt_fine (g.let_stmt x e) = ap trees.stmt_tree (stmt_form-Let x (trees.expr_tree e)) ∙ ap (λ (h : Expr). stmt.Let x h) (expr_fine e).expr_is
+  stmt_fine (g.assign_stmt x e) = ap trees.stmt_tree (stmt_form-Assign x (trees.expr_tree e)) ∙ ap (λ (h : Expr). stmt.Assign x h) (expr_fine e).expr_is
   stmt_fine (g.if_stmt e b more other) =
-      let a : Arm = record { test = g.expr_tree e; body = g.block_tree b } in
-      let arms : List Arm = g.else_ifs_tree more in
-      let o : Option Block = g.else_tree other in
-      ap g.stmt_tree (stmt_form-If (a ∷ arms) o)
-      ∙ ap (λ (z : ExprWay × BlockWay). g.stmt_tree (g.if_stmt z.0 z.1 (else_ifs_of (map arm_form arms)) (else_of (other_form o)))) (arm_is a)
-      ∙ ap (λ (h : Arm). stmt.If (h ∷ g.else_ifs_tree (else_ifs_of (map arm_form arms))) (g.else_tree (else_of (other_form o)))) (arm_fine e b (block_fine b))
-      ∙ ap (λ (h : List Arm). stmt.If (a ∷ h) (g.else_tree (else_of (other_form o)))) (else_ifs_fine more)
+      let a : Arm = record { test = trees.expr_tree e; body = trees.block_tree b } in
+      let arms : List Arm = trees.else_ifs_tree more in
+      let o : Option Block = trees.else_tree other in
+      ap trees.stmt_tree (stmt_form-If (a ∷ arms) o)
+      ∙ ap (λ (z : ExprWay × BlockWay). trees.stmt_tree (g.if_stmt z.0 z.1 (else_ifs_of (map arm_form arms)) (else_of (other_form o)))) (arm_is a)
+      ∙ ap (λ (h : Arm). stmt.If (h ∷ trees.else_ifs_tree (else_ifs_of (map arm_form arms))) (trees.else_tree (else_of (other_form o)))) (arm_fine e b (block_fine b))
+      ∙ ap (λ (h : List Arm). stmt.If (a ∷ h) (trees.else_tree (else_of (other_form o)))) (else_ifs_fine more)
       ∙ ap (λ (h : Option Block). stmt.If (a ∷ arms) h) (else_fine other)
   stmt_fine (g.while_stmt e b) =
-      ap g.stmt_tree (stmt_form-While (g.expr_tree e) (g.block_tree b))
-      ∙ ap (λ (h : Expr). stmt.While h (g.block_tree (block_form (g.block_tree b)))) (expr_fine e).expr_is
-      ∙ ap (λ (h : Block). stmt.While (g.expr_tree e) h) (block_fine b)
+      ap trees.stmt_tree (stmt_form-While (trees.expr_tree e) (trees.block_tree b))
+      ∙ ap (λ (h : Expr). stmt.While h (trees.block_tree (block_form (trees.block_tree b)))) (expr_fine e).expr_is
+      ∙ ap (λ (h : Block). stmt.While (trees.expr_tree e) h) (block_fine b)
   stmt_fine (g.for_stmt x e b) =
-      ap g.stmt_tree (stmt_form-For x (g.expr_tree e) (g.block_tree b))
-      ∙ ap (λ (h : Expr). stmt.For x h (g.block_tree (block_form (g.block_tree b)))) (expr_fine e).expr_is
-      ∙ ap (λ (h : Block). stmt.For x (g.expr_tree e) h) (block_fine b)
-  stmt_fine (g.yield_stmt e) = ap g.stmt_tree (stmt_form-Yield (g.expr_tree e)) ∙ ap (λ (h : Expr). stmt.Yield h) (expr_fine e).expr_is
-  stmt_fine (g.return_stmt e) = ap g.stmt_tree (stmt_form-Return (g.expr_tree e)) ∙ ap (λ (h : Expr). stmt.Return h) (expr_fine e).expr_is
-  stmt_fine (g.throw_stmt e) = ap g.stmt_tree (stmt_form-Throw (g.expr_tree e)) ∙ ap (λ (h : Expr). stmt.Throw h) (expr_fine e).expr_is
-  stmt_fine (g.cleanup_stmt e) = ap g.stmt_tree (stmt_form-Cleanup (g.expr_tree e)) ∙ ap (λ (h : Expr). stmt.Cleanup h) (expr_fine e).expr_is
+      ap trees.stmt_tree (stmt_form-For x (trees.expr_tree e) (trees.block_tree b))
+      ∙ ap (λ (h : Expr). stmt.For x h (trees.block_tree (block_form (trees.block_tree b)))) (expr_fine e).expr_is
+      ∙ ap (λ (h : Block). stmt.For x (trees.expr_tree e) h) (block_fine b)
+  stmt_fine (g.yield_stmt e) = ap trees.stmt_tree (stmt_form-Yield (trees.expr_tree e)) ∙ ap (λ (h : Expr). stmt.Yield h) (expr_fine e).expr_is
+  stmt_fine (g.return_stmt e) = ap trees.stmt_tree (stmt_form-Return (trees.expr_tree e)) ∙ ap (λ (h : Expr). stmt.Return h) (expr_fine e).expr_is
+  stmt_fine (g.throw_stmt e) = ap trees.stmt_tree (stmt_form-Throw (trees.expr_tree e)) ∙ ap (λ (h : Expr). stmt.Throw h) (expr_fine e).expr_is
+  stmt_fine (g.cleanup_stmt e) = ap trees.stmt_tree (stmt_form-Cleanup (trees.expr_tree e)) ∙ ap (λ (h : Expr). stmt.Cleanup h) (expr_fine e).expr_is
 
-  pub else_ifs_fine : (d : ElseIfs) → g.else_ifs_tree (else_ifs_of (map arm_form (g.else_ifs_tree d))) ≡ g.else_ifs_tree d
+  pub else_ifs_fine : (d : ElseIfs) → trees.else_ifs_tree (else_ifs_of (map arm_form (trees.else_ifs_tree d))) ≡ trees.else_ifs_tree d
   else_ifs_fine g.no_else_if = refl
   else_ifs_fine (g.else_if e b more) =
-      let a : Arm = record { test = g.expr_tree e; body = g.block_tree b } in
-      let ms : ElseIfs = else_ifs_of (map arm_form (g.else_ifs_tree more)) in
-      ap (λ (z : ExprWay × BlockWay). g.else_ifs_tree (g.else_if z.0 z.1 ms)) (arm_is a)
-      ∙ ap (λ (h : Arm). h ∷ g.else_ifs_tree ms) (arm_fine e b (block_fine b))
+      let a : Arm = record { test = trees.expr_tree e; body = trees.block_tree b } in
+      let ms : ElseIfs = else_ifs_of (map arm_form (trees.else_ifs_tree more)) in
+      ap (λ (z : ExprWay × BlockWay). trees.else_ifs_tree (g.else_if z.0 z.1 ms)) (arm_is a)
+      ∙ ap (λ (h : Arm). h ∷ trees.else_ifs_tree ms) (arm_fine e b (block_fine b))
       ∙ ap (λ (h : List Arm). a ∷ h) (else_ifs_fine more)
 
-  pub else_fine : (d : ElseWay) → g.else_tree (else_of (other_form (g.else_tree d))) ≡ g.else_tree d
+  pub else_fine : (d : ElseWay) → trees.else_tree (else_of (other_form (trees.else_tree d))) ≡ trees.else_tree d
   else_fine g.no_else = refl
   else_fine (g.else_block b) = ap (λ (h : Block). Some h) (block_fine b)
 
-pub body_fine : (d : BodyWay) → g.body_tree (body_form (g.body_tree d)) ≡ g.body_tree d
+pub body_fine : (d : BodyWay) → trees.body_tree (body_form (trees.body_tree d)) ≡ trees.body_tree d
 body_fine (g.expr_body e) = ap (λ (h : Expr). body.Expr h) (expr_fine e).expr_is
 body_fine (g.block_body s more) =
-    let b : Block = record { stmts = g.stmts_tree (g.next_stmt s more) } in
-    ap (λ (h : BlockWay). g.body_tree (f.block_body_of h)) (block_is b)
+    let b : Block = record { stmts = trees.stmts_tree (g.next_stmt s more) } in
+    ap (λ (h : BlockWay). trees.body_tree (f.block_body_of h)) (block_is b)
     ∙ ap (λ (h : List Stmt). body.Block (record { stmts = h })) (stmts_fine (g.next_stmt s more))
 
 -- The form of a cell that is spelled has its tree.
-pub cell_fine : (d : CellWay) → g.cell_tree (cell_form (g.cell_tree d)) ≡ g.cell_tree d
+pub cell_fine : (d : CellWay) → trees.cell_tree (cell_form (trees.cell_tree d)) ≡ trees.cell_tree d
 cell_fine (g.unnamed b) = ap (λ (h : Body). let z : Cell = record { name = None; body = h } in z) (body_fine b)
 cell_fine (g.named x b) = ap (λ (h : Body). let z : Cell = record { name = Some x; body = h } in z) (body_fine b)

@@ -13,7 +13,7 @@ use Rattle.nb_syntax.specs.declared.tree.Block.{Block}
 use Rattle.nb_syntax.specs.declared.tree.Arm.{Arm}
 use Rattle.nb_syntax.specs.declared.tree.Stmt.TheVariants as stmt
 use Rattle.nb_grammar.specs.Grammar as g
-use Rattle.nb_grammar.specs.Grammar.{ExprWay, OrWay, OrParts, AndWay, AndParts, CompareWay, SumWay, Summands, ProductWay, Factors, UnaryWay, PostfixWay, Steps, PrimaryWay, Items, Pairs, PairWay, KeyWay, BlockWay, Stmts, StmtWay, ElseIfs, ElseWay, BodyWay, CellWay, CompareSign, SumSign, ProductSign, UnarySign}
+use Rattle.nb_grammar.specs.Grammar.{ExprWay, Steps, BlockWay, StmtWay}
 use Rattle.nb_syntax.specs.declared.tree.Expr.{fold-roll-Expr}
 use Rattle.nb_syntax.specs.declared.tree.Expr.TheOpen as layer
 use Rattle.nb_syntax.specs.declared.tree.Expr.TheViews as views
@@ -26,7 +26,7 @@ use Rattle.nb_syntax.specs.declared.tree.Stmt.TheViews as stmt_views
 use Rattle.nb_syntax.specs.declared.tree.Arm.{fold_out-Arm}
 use Rattle.nb_syntax.specs.declared.tree.Block.{fold_out-Block}
 use Rattle.nb_grammar.specs.Forms as f
-use Rattle.nb_grammar.specs.Forms.{Forms, of_primary, of_expr, of_or, of_and, of_compare, of_sum, of_product, of_unary, of_postfix, as_compare, as_sum, as_product, as_unary, or_parts_of, and_parts_of, summands_of, factors_of, steps_of, items_of, pairs_of, list_of, record_of, truth_of, call_of, expr_step, path_step, member_step, operand_step, forms, step_forms, member_forms, operand_forms, stmts_of, else_ifs_of, else_of, stmt_step, arm_step, block_step, stmt_form, arm_form, block_form, body_form, cell_form, printed}
+use Rattle.nb_grammar.specs.Forms.{Forms, of_primary, of_expr, of_compare, of_sum, of_product, of_unary, of_postfix, as_compare, as_unary, summands_of, factors_of, steps_of, list_of, record_of, truth_of, call_of, expr_step, path_step, member_step, operand_step, forms, step_forms, member_forms, operand_forms, stmts_of, stmt_step, arm_step, block_step, stmt_form, arm_form, block_form}
 
 pub forms-Int : (n : ℤ) → forms (tree.Int n) ≡ of_primary (g.number n)
 forms-Int n = ap forms (sym (views.rolls-Int n)) ∙ fold-roll-Expr Forms (Steps → Steps) (List ℕ × Forms) (Sign × Forms) expr_step path_step member_step operand_step (layer.Int n)

@@ -18,7 +18,7 @@ pub mod RunsCell
 pub mod Finish
 pub mod Walk
 pub mod Faults
-pub mod Laws
+pub mod Viable
 pub mod FormLaws
 pub mod FormExpr
 pub mod FormCell
@@ -26,3 +26,4 @@ pub mod FormDepth
 pub mod EachWord
 pub mod FormWords
 pub mod Printing
+pub mod Braces

@@ -5,10 +5,10 @@ use Rattle.nb_lexer.specs.declared.word.Word.TheVariants as word
 use Rattle.nb_grammar.specs.declared.fault.Fault.{Fault}
 use Rattle.nb_grammar.specs.declared.fault.Fault.TheVariants.{TooDeep}
 use Rattle.nb_grammar.specs.Reading as r
-use Rattle.nb_grammar.specs.Reading.{Read, ◌>>=◌, many, rounds, onward, inside_of, Inside, Inner, fault, Gives}
+use Rattle.nb_grammar.specs.Reading.{Read, ◌>>=◌, many, rounds, onward, inside_of}
 use Rattle.nb_grammar.specs.Law.{counted, opens, onto}
 use Rattle.nb_grammar.specs.Machine as m
-use Rattle.nb_grammar.specs.Machine.{Sym, Level, run, want, arguments, more_steps, more_factors, more_summands, more_compare, more_and, more_or, more_choice, first_item, more_items, first_pair, more_pairs, need_name, need_key, need_let, need_of, need_open_round, need_close_round, need_comma, need_colon, need_semicolon, need_assign, need_close_square, more_stmts, more_else, after_else, body_brace, brace_name, cell_name, behind, tails, more_arguments}
+use Rattle.nb_grammar.specs.Machine.{Sym, run, want, need_name, need_key, need_let, need_of, need_close_round, need_comma, need_colon, need_semicolon, need_assign, need_close_square, more_stmts}
 use Rattle.nb_grammar.proofs.Loops.{Falls}
 
 -- what goes on behind what was read

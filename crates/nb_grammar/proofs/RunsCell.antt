@@ -11,9 +11,9 @@ use Rattle.nb_syntax.specs.declared.tree.Body.TheVariants as body
 use Rattle.nb_syntax.specs.declared.tree.Cell.{Cell}
 use Rattle.nb_grammar.specs.declared.fault.Fault.{Fault}
 use Rattle.nb_grammar.specs.Reading as r
-use Rattle.nb_grammar.specs.Reading.{Read, ◌>>=◌, many, rounds, onward, inside_of, Inside, Inner, fault, Gives}
+use Rattle.nb_grammar.specs.Reading.{Read, ◌>>=◌, rounds, onward, inside_of}
 use Rattle.nb_grammar.specs.Machine as m
-use Rattle.nb_grammar.specs.Machine.{Sym, Level, run, want, arguments, more_steps, more_factors, more_summands, more_compare, more_and, more_or, more_choice, first_item, more_items, first_pair, more_pairs, need_name, need_key, need_let, need_of, need_open_round, need_close_round, need_comma, need_colon, need_semicolon, need_assign, need_close_square, more_stmts, more_else, after_else, body_brace, brace_name, cell_name, behind, tails, more_arguments}
+use Rattle.nb_grammar.specs.Machine.{Sym, run, want, need_name, need_let, need_of, need_open_round, need_close_round, need_semicolon, need_assign, more_stmts, more_else}
 use Rattle.nb_grammar.proofs.SoundPrimary.{Within}
 use Rattle.nb_grammar.proofs.Loops.{else_if_falls, stmt_falls}
 use Rattle.nb_grammar.proofs.Runs.{ends, ends_then, Loops, rounds_goes, RunsExpr, RunsStmts, RunsInner, close_round_runs, semicolon_runs, assign_runs, let_word_runs, of_word_runs, name_runs}
@@ -34,7 +34,7 @@ ended_runs room whole ws ss =
     let k : Expr × List Word → Option Fault = λ x. run x.1 room ss in
     whole ws (need_semicolon ∷ ss)
     ∙ ends_then (r.expr (inside_of room) ws) (λ e. r.semicolon e.1 >>= (λ rest. Ok (e.0, rest))) (λ x. run x.1 room (need_semicolon ∷ ss)) k
-        (λ e is. semicolon_runs room e.1 ss ∙ ends_then (r.semicolon e.1) (λ rest. Ok (e.0, rest)) (λ rest. run rest room ss) k (λ rest g. refl))
+    (λ e is. semicolon_runs room e.1 ss ∙ ends_then (r.semicolon e.1) (λ rest. Ok (e.0, rest)) (λ rest. run rest room ss) k (λ rest g. refl))
 
 assignment_runs : (room : ℕ) → RunsExpr room → (n : List ℕ) (ws : List Word) (ss : List Sym)
     → run ws room (need_assign ∷ want m.expr ∷ need_semicolon ∷ ss) ≡ ends (r.assignment (inside_of room) n ws) (λ x. run x.1 room ss)
@@ -43,7 +43,7 @@ assignment_runs room whole n ws ss =
     let f : Expr × List Word → Read Stmt = λ e. Ok (stmt.Assign n e.0, e.1) in
     assign_runs room ws (want m.expr ∷ need_semicolon ∷ ss)
     ∙ ends_then (r.assign ws) (λ rest. r.ended (inside_of room) rest >>= f) (λ rest. run rest room (want m.expr ∷ need_semicolon ∷ ss)) k
-        (λ rest g. ended_runs room whole rest ss ∙ ends_then (r.ended (inside_of room) rest) f (λ x. run x.1 room ss) k (λ e h. refl))
+    (λ rest g. ended_runs room whole rest ss ∙ ends_then (r.ended (inside_of room) rest) f (λ x. run x.1 room ss) k (λ e h. refl))
 
 let_runs : (room : ℕ) → RunsExpr room → (ws : List Word) (ss : List Sym)
     → run ws room (need_name ∷ need_assign ∷ want m.expr ∷ need_semicolon ∷ ss) ≡ ends (r.let_stmt (inside_of room) ws) (λ x. run x.1 room ss)
@@ -52,9 +52,9 @@ let_runs room whole ws ss =
     let f : List ℕ → Expr × List Word → Read Stmt = λ n e. Ok (stmt.Let n e.0, e.1) in
     name_runs room ws (need_assign ∷ want m.expr ∷ need_semicolon ∷ ss)
     ∙ ends_then (r.name ws) (λ x. r.assign x.1 >>= (λ rest. r.ended (inside_of room) rest >>= f x.0)) (λ x. run x.1 room (need_assign ∷ want m.expr ∷ need_semicolon ∷ ss)) k
-        (λ x is. assign_runs room x.1 (want m.expr ∷ need_semicolon ∷ ss)
-            ∙ ends_then (r.assign x.1) (λ rest. r.ended (inside_of room) rest >>= f x.0) (λ rest. run rest room (want m.expr ∷ need_semicolon ∷ ss)) k
-                (λ rest g. ended_runs room whole rest ss ∙ ends_then (r.ended (inside_of room) rest) (f x.0) (λ x. run x.1 room ss) k (λ e h. refl)))
+    (λ x is. assign_runs room x.1 (want m.expr ∷ need_semicolon ∷ ss)
+    ∙ ends_then (r.assign x.1) (λ rest. r.ended (inside_of room) rest >>= f x.0) (λ rest. run rest room (want m.expr ∷ need_semicolon ∷ ss)) k
+    (λ rest g. ended_runs room whole rest ss ∙ ends_then (r.ended (inside_of room) rest) (f x.0) (λ x. run x.1 room ss) k (λ e h. refl)))
 
 arm_runs : (room : ℕ) → Within RunsInner room → (ws : List Word) (ss : List Sym)
     → run ws room (need_open_round ∷ want m.expr ∷ need_close_round ∷ m.block ∷ ss) ≡ ends (r.arm (inside_of room) ws) (λ x. run x.1 room ss)
@@ -63,7 +63,7 @@ arm_runs room within ws ss =
     let f : Expr → Block × List Word → Read Arm = λ e b. Ok (record { test = e; body = b.0 }, b.1) in
     bracketed_runs room within ws (m.block ∷ ss)
     ∙ ends_then (r.bracketed (inside_of room) ws) (λ e. r.block (inside_of room) e.1 >>= f e.0) (λ x. run x.1 room (m.block ∷ ss)) k
-        (λ e is. block_runs room within e.1 ss ∙ ends_then (r.block (inside_of room) e.1) (f e.0) (λ x. run x.1 room ss) k (λ b g. refl))
+    (λ e is. block_runs room within e.1 ss ∙ ends_then (r.block (inside_of room) e.1) (f e.0) (λ x. run x.1 room ss) k (λ b g. refl))
 
 -- behind the arms of an if
 abbrev else_run : ℕ → List Sym → List Word → Option Fault
@@ -78,7 +78,7 @@ else_if_loops : (room : ℕ) → Within RunsInner room → (ss : List Sym) → L
 else_if_loops room within ss (word.Else ∷ word.If ∷ ws) =
     arm_runs room within ws (more_else ∷ ss)
     ∙ ends_then (r.arm (inside_of room) ws) (λ a. Ok (Some a.0, a.1)) (λ x. run x.1 room (more_else ∷ ss))
-        (λ x. onward x.0 (else_run room ss x.1) (λ a. run x.1 room (more_else ∷ ss))) (λ a is. refl)
+    (λ x. onward x.0 (else_run room ss x.1) (λ a. run x.1 room (more_else ∷ ss))) (λ a is. refl)
 else_if_loops room within ss (word.Else ∷ word.OpenCurly ∷ ws) = else_block_runs room within (word.OpenCurly ∷ ws) ss
 else_if_loops room within ss (word.Else ∷ []) = refl
 else_if_loops room within ss (word.Else ∷ w ∷ ws) = refl
@@ -94,9 +94,9 @@ if_runs room within ws ss =
     let f : List Arm × List Word → Read Stmt = λ arms. r.otherwise (inside_of room) arms.1 >>= g arms.0 in
     arm_runs room within ws (more_else ∷ ss)
     ∙ ends_then (r.arm (inside_of room) ws) (λ first. rounds next (first.0 ∷ []) first.1 >>= f) (λ x. run x.1 room (more_else ∷ ss)) k
-        (λ first is. rounds_goes room more_else ss next (else_run room ss) (else_if_falls room) (else_if_loops room within ss) (first.0 ∷ []) first.1
-            ∙ ends_then (rounds next (first.0 ∷ []) first.1) f (λ x. else_run room ss x.1) k
-                (λ arms i. ends_then (r.otherwise (inside_of room) arms.1) (g arms.0) (λ x. run x.1 room ss) k (λ other j. refl)))
+    (λ first is. rounds_goes room more_else ss next (else_run room ss) (else_if_falls room) (else_if_loops room within ss) (first.0 ∷ []) first.1
+    ∙ ends_then (rounds next (first.0 ∷ []) first.1) f (λ x. else_run room ss x.1) k
+    (λ arms i. ends_then (r.otherwise (inside_of room) arms.1) (g arms.0) (λ x. run x.1 room ss) k (λ other j. refl)))
 
 while_runs : (room : ℕ) → Within RunsInner room → (ws : List Word) (ss : List Sym)
     → run ws room (need_open_round ∷ want m.expr ∷ need_close_round ∷ m.block ∷ ss) ≡ ends (r.while_stmt (inside_of room) ws) (λ x. run x.1 room ss)
@@ -113,14 +113,14 @@ each_of_runs room whole ws ss =
     let f : List ℕ → Expr × List Word → Read (List ℕ × Expr) = λ n e. r.close_round e.1 >>= h n e.0 in
     let_word_runs room ws (need_name ∷ need_of ∷ want m.expr ∷ need_close_round ∷ ss)
     ∙ ends_then (r.let_word ws) (λ begun. r.name begun >>= (λ x. r.of_word x.1 >>= (λ from. p from >>= f x.0)))
-        (λ rest. run rest room (need_name ∷ need_of ∷ want m.expr ∷ need_close_round ∷ ss)) k
-        (λ begun i. name_runs room begun (need_of ∷ want m.expr ∷ need_close_round ∷ ss)
-            ∙ ends_then (r.name begun) (λ x. r.of_word x.1 >>= (λ from. p from >>= f x.0)) (λ x. run x.1 room (need_of ∷ want m.expr ∷ need_close_round ∷ ss)) k
-                (λ x j. of_word_runs room x.1 (want m.expr ∷ need_close_round ∷ ss)
-                    ∙ ends_then (r.of_word x.1) (λ from. p from >>= f x.0) (λ rest. run rest room (want m.expr ∷ need_close_round ∷ ss)) k
-                        (λ from l. whole from (need_close_round ∷ ss)
-                            ∙ ends_then (p from) (f x.0) (λ e. run e.1 room (need_close_round ∷ ss)) k
-                                (λ e q. close_round_runs room e.1 ss ∙ ends_then (r.close_round e.1) (h x.0 e.0) (λ rest. run rest (suc room) ss) k (λ rest v. refl)))))
+    (λ rest. run rest room (need_name ∷ need_of ∷ want m.expr ∷ need_close_round ∷ ss)) k
+    (λ begun i. name_runs room begun (need_of ∷ want m.expr ∷ need_close_round ∷ ss)
+    ∙ ends_then (r.name begun) (λ x. r.of_word x.1 >>= (λ from. p from >>= f x.0)) (λ x. run x.1 room (need_of ∷ want m.expr ∷ need_close_round ∷ ss)) k
+    (λ x j. of_word_runs room x.1 (want m.expr ∷ need_close_round ∷ ss)
+    ∙ ends_then (r.of_word x.1) (λ from. p from >>= f x.0) (λ rest. run rest room (want m.expr ∷ need_close_round ∷ ss)) k
+    (λ from l. whole from (need_close_round ∷ ss)
+    ∙ ends_then (p from) (f x.0) (λ e. run e.1 room (need_close_round ∷ ss)) k
+    (λ e q. close_round_runs room e.1 ss ∙ ends_then (r.close_round e.1) (h x.0 e.0) (λ rest. run rest (suc room) ss) k (λ rest v. refl)))))
 
 each_runs : (room : ℕ) → Within RunsInner room → (ws : List Word) (ss : List Sym)
     → run ws room (need_open_round ∷ need_let ∷ need_name ∷ need_of ∷ want m.expr ∷ need_close_round ∷ ss) ≡ ends (r.each (inside_of room) ws) (λ x. run x.1 room ss)
@@ -136,7 +136,7 @@ for_runs room within ws ss =
     let f : List ℕ × Expr → Block × List Word → Read Stmt = λ h b. Ok (stmt.For h.0 h.1 b.0, b.1) in
     each_runs room within ws (m.block ∷ ss)
     ∙ ends_then (r.each (inside_of room) ws) (λ h. r.block (inside_of room) h.1 >>= f h.0) (λ x. run x.1 room (m.block ∷ ss)) k
-        (λ h is. block_runs room within h.1 ss ∙ ends_then (r.block (inside_of room) h.1) (f h.0) (λ x. run x.1 room ss) k (λ b g. refl))
+    (λ h is. block_runs room within h.1 ss ∙ ends_then (r.block (inside_of room) h.1) (f h.0) (λ x. run x.1 room ss) k (λ b g. refl))
 
 -- a statement of a block, and the next
 some_runs : {A : Type 0} (room : ℕ) (ss : List Sym) (read : Read A) (make : A → Stmt)
@@ -144,7 +144,7 @@ some_runs : {A : Type 0} (room : ℕ) (ss : List Sym) (read : Read A) (make : A 
     ≡ ends (read >>= (λ s. (let y : Read (Option Stmt) = Ok (Some (make s.0), s.1) in y))) (λ x. onward x.0 (curly_closed room ss x.1) (λ a. run x.1 room (more_stmts ∷ ss)))
 some_runs room ss read make =
     ends_then read (λ s. (let y : Read (Option Stmt) = Ok (Some (make s.0), s.1) in y)) (λ x. run x.1 room (more_stmts ∷ ss))
-        (λ x. onward x.0 (curly_closed room ss x.1) (λ a. run x.1 room (more_stmts ∷ ss))) (λ e is. refl)
+    (λ x. onward x.0 (curly_closed room ss x.1) (λ a. run x.1 room (more_stmts ∷ ss))) (λ e is. refl)
 
 stmt_loops : (room : ℕ) → Within RunsInner room → RunsExpr room → (ss : List Sym) → Loops room more_stmts ss (r.next_stmt (inside_of room)) (curly_closed room ss)
 stmt_loops room within whole ss (word.Name n ∷ ws) = assignment_runs room whole n ws (more_stmts ∷ ss) ∙ some_runs room ss (r.assignment (inside_of room) n ws) (λ s. s)
@@ -166,7 +166,7 @@ stmts_run room within whole ws ss =
     let k : List Stmt × List Word → Option Fault = λ x. run x.1 (suc room) ss in
     rounds_goes room more_stmts ss next (curly_closed room ss) (stmt_falls room) (stmt_loops room within whole ss) [] ws
     ∙ ends_then (rounds next [] ws) (λ all. r.close_curly all.1 >>= (λ rest. Ok (all.0, rest))) (λ x. curly_closed room ss x.1) k
-        (λ all is. ends_then (r.close_curly all.1) (λ rest. Ok (all.0, rest)) (λ rest. run rest (suc room) ss) k (λ rest g. refl))
+    (λ all is. ends_then (r.close_curly all.1) (λ rest. Ok (all.0, rest)) (λ rest. run rest (suc room) ss) k (λ rest g. refl))
 
 runs_by : (room : ℕ) → Within RunsInner room → RunsInner room
 runs_by room within = (expr_runs room within, stmts_run room within (expr_runs room within))

@@ -11,9 +11,9 @@ use Rattle.nb_syntax.specs.declared.tree.Operand.{Operand}
 use Rattle.nb_grammar.specs.declared.fault.Fault.{Fault}
 use Rattle.nb_grammar.specs.Words.{product_sign, sum_sign, called}
 use Rattle.nb_grammar.specs.Reading as r
-use Rattle.nb_grammar.specs.Reading.{Read, ◌>>=◌, many, rounds, onward, inside_of, Inside, Inner, fault, Gives}
+use Rattle.nb_grammar.specs.Reading.{Read, ◌>>=◌, rounds, onward, inside_of}
 use Rattle.nb_grammar.specs.Machine as m
-use Rattle.nb_grammar.specs.Machine.{Sym, Level, run, want, arguments, more_steps, more_factors, more_summands, more_compare, more_and, more_or, more_choice, first_item, more_items, first_pair, more_pairs, need_name, need_key, need_let, need_of, need_open_round, need_close_round, need_comma, need_colon, need_semicolon, need_assign, need_close_square, more_stmts, more_else, after_else, body_brace, brace_name, cell_name, behind, tails, more_arguments}
+use Rattle.nb_grammar.specs.Machine.{Sym, run, want, more_steps, more_factors, more_summands, more_compare, more_and, more_or, more_choice, need_colon, need_close_square, tails}
 use Rattle.nb_grammar.proofs.SoundPrimary.{Within}
 use Rattle.nb_grammar.proofs.Loops.{factor_falls, summand_falls, step_falls, and_part_falls, or_part_falls}
 use Rattle.nb_grammar.proofs.Runs.{ends, ends_then, Runs, rounds_goes, RunsExpr, RunsInner, close_square_runs, colon_runs, name_runs}
@@ -25,14 +25,14 @@ step_loops : (room : ℕ) → Within RunsInner room → (ws : List Word) (ss : L
 step_loops room within (word.Dot ∷ ws) ss =
     name_runs room ws (more_steps ∷ ss)
     ∙ ends_then (r.name ws) (λ x. Ok (Some (path.Field x.0), x.1)) (λ x. run x.1 room (more_steps ∷ ss))
-        (λ x. onward x.0 (run x.1 room ss) (λ a. run x.1 room (more_steps ∷ ss))) (λ e is. refl)
+    (λ x. onward x.0 (run x.1 room ss) (λ a. run x.1 room (more_steps ∷ ss))) (λ e is. refl)
 step_loops zero within (word.OpenSquare ∷ ws) ss = refl
 step_loops (suc room) within (word.OpenSquare ∷ ws) ss =
     let k : Option PathStep × List Word → Option Fault = λ x. onward x.0 (run x.1 (suc room) ss) (λ a. run x.1 (suc room) (more_steps ∷ ss)) in
     within.0 ws (need_close_square ∷ more_steps ∷ ss)
     ∙ ends_then (r.expr (inside_of room) ws) (λ e. r.close_square e.1 >>= (λ rest. Ok (Some (path.At e.0), rest))) (λ x. run x.1 room (need_close_square ∷ more_steps ∷ ss)) k
-        (λ e is. close_square_runs room e.1 (more_steps ∷ ss)
-            ∙ ends_then (r.close_square e.1) (λ rest. Ok (Some (path.At e.0), rest)) (λ rest. run rest (suc room) (more_steps ∷ ss)) k (λ rest g. refl))
+    (λ e is. close_square_runs room e.1 (more_steps ∷ ss)
+    ∙ ends_then (r.close_square e.1) (λ rest. Ok (Some (path.At e.0), rest)) (λ rest. run rest (suc room) (more_steps ∷ ss)) k (λ rest g. refl))
 step_loops room within [] ss = refl
 step_loops room within (w ∷ ws) ss = refl
 
@@ -79,8 +79,8 @@ postfix_runs room within ws ss =
     postfix_split room ws ss
     ∙ primary_runs room within ws (more_steps ∷ ss)
     ∙ ends_then (r.primary (inside_of room) ws) (λ e. rounds (r.step (inside_of room)) [] e.1 >>= f e.0) (λ x. run x.1 room (more_steps ∷ ss)) k
-        (λ e is. rounds_goes room more_steps ss (r.step (inside_of room)) (λ ws. run ws room ss) (step_falls room) (λ ws. step_loops room within ws ss) [] e.1
-            ∙ ends_then (rounds (r.step (inside_of room)) [] e.1) (f e.0) (λ x. run x.1 room ss) k (λ more is. refl))
+    (λ e is. rounds_goes room more_steps ss (r.step (inside_of room)) (λ ws. run ws room ss) (step_falls room) (λ ws. step_loops room within ws ss) [] e.1
+    ∙ ends_then (rounds (r.step (inside_of room)) [] e.1) (f e.0) (λ x. run x.1 room ss) k (λ more is. refl))
 
 pub unary_runs : (room : ℕ) → Within RunsInner room → Runs room (want m.unary) (r.unary (inside_of room))
 unary_runs room within (word.Minus ∷ ws) ss =
@@ -114,8 +114,8 @@ product_runs room within ws ss =
     product_split room ws ss
     ∙ unary_runs room within ws (more_factors ∷ ss)
     ∙ ends_then (r.unary (inside_of room) ws) (λ e. rounds next [] e.1 >>= f e.0) (λ x. run x.1 room (more_factors ∷ ss)) k
-        (λ e is. rounds_goes room more_factors ss next (λ ws. run ws room ss) (factor_falls room) (λ ws. factor_loops room within ws ss) [] e.1
-            ∙ ends_then (rounds next [] e.1) (f e.0) (λ x. run x.1 room ss) k (λ more is. refl))
+    (λ e is. rounds_goes room more_factors ss next (λ ws. run ws room ss) (factor_falls room) (λ ws. factor_loops room within ws ss) [] e.1
+    ∙ ends_then (rounds next [] e.1) (f e.0) (λ x. run x.1 room ss) k (λ more is. refl))
 
 summand_loops : (room : ℕ) → Within RunsInner room → (ws : List Word) (ss : List Sym)
     → run ws room (more_summands ∷ ss) ≡ ends (r.operand sum_sign (r.product (inside_of room)) ws) (λ x. onward x.0 (run x.1 room ss) (λ a. run x.1 room (more_summands ∷ ss)))
@@ -136,8 +136,8 @@ sum_runs room within ws ss =
     sum_split room ws ss
     ∙ product_runs room within ws (more_summands ∷ ss)
     ∙ ends_then (r.product (inside_of room) ws) (λ e. rounds next [] e.1 >>= f e.0) (λ x. run x.1 room (more_summands ∷ ss)) k
-        (λ e is. rounds_goes room more_summands ss next (λ ws. run ws room ss) (summand_falls room) (λ ws. summand_loops room within ws ss) [] e.1
-            ∙ ends_then (rounds next [] e.1) (f e.0) (λ x. run x.1 room ss) k (λ more is. refl))
+    (λ e is. rounds_goes room more_summands ss next (λ ws. run ws room ss) (summand_falls room) (λ ws. summand_loops room within ws ss) [] e.1
+    ∙ ends_then (rounds next [] e.1) (f e.0) (λ x. run x.1 room ss) k (λ more is. refl))
 
 compare_at_runs : (room : ℕ) → Within RunsInner room → (left : Expr) (ws : List Word) (ss : List Sym)
     → run ws room (more_compare ∷ ss) ≡ ends (r.compare_at (inside_of room) left ws) (λ x. run x.1 room ss)
@@ -161,7 +161,7 @@ compare_runs room within ws ss =
     compare_split room ws ss
     ∙ sum_runs room within ws (more_compare ∷ ss)
     ∙ ends_then (r.sum (inside_of room) ws) (λ e. r.compare_at (inside_of room) e.0 e.1) (λ x. run x.1 room (more_compare ∷ ss)) (λ x. run x.1 room ss)
-        (λ e is. compare_at_runs room within e.0 e.1 ss)
+    (λ e is. compare_at_runs room within e.0 e.1 ss)
 
 and_loops : (room : ℕ) → Within RunsInner room → (ws : List Word) (ss : List Sym)
     → run ws room (more_and ∷ ss) ≡ ends (r.and_part (inside_of room) ws) (λ x. onward x.0 (run x.1 room ss) (λ a. run x.1 room (more_and ∷ ss)))
@@ -179,8 +179,8 @@ and_runs room within ws ss =
     and_split room ws ss
     ∙ compare_runs room within ws (more_and ∷ ss)
     ∙ ends_then (r.compare (inside_of room) ws) (λ e. rounds next [] e.1 >>= f e.0) (λ x. run x.1 room (more_and ∷ ss)) k
-        (λ e is. rounds_goes room more_and ss next (λ ws. run ws room ss) (and_part_falls room) (λ ws. and_loops room within ws ss) [] e.1
-            ∙ ends_then (rounds next [] e.1) (f e.0) (λ x. run x.1 room ss) k (λ more is. refl))
+    (λ e is. rounds_goes room more_and ss next (λ ws. run ws room ss) (and_part_falls room) (λ ws. and_loops room within ws ss) [] e.1
+    ∙ ends_then (rounds next [] e.1) (f e.0) (λ x. run x.1 room ss) k (λ more is. refl))
 
 or_loops : (room : ℕ) → Within RunsInner room → (ws : List Word) (ss : List Sym)
     → run ws room (more_or ∷ ss) ≡ ends (r.or_part (inside_of room) ws) (λ x. onward x.0 (run x.1 room ss) (λ a. run x.1 room (more_or ∷ ss)))
@@ -198,8 +198,8 @@ or_runs room within ws ss =
     or_split room ws ss
     ∙ and_runs room within ws (more_or ∷ ss)
     ∙ ends_then (r.and (inside_of room) ws) (λ e. rounds next [] e.1 >>= f e.0) (λ x. run x.1 room (more_or ∷ ss)) k
-        (λ e is. rounds_goes room more_or ss next (λ ws. run ws room ss) (or_part_falls room) (λ ws. or_loops room within ws ss) [] e.1
-            ∙ ends_then (rounds next [] e.1) (f e.0) (λ x. run x.1 room ss) k (λ more is. refl))
+    (λ e is. rounds_goes room more_or ss next (λ ws. run ws room ss) (or_part_falls room) (λ ws. or_loops room within ws ss) [] e.1
+    ∙ ends_then (rounds next [] e.1) (f e.0) (λ x. run x.1 room ss) k (λ more is. refl))
 
 choice_runs : (room : ℕ) → Within RunsInner room → (test : Expr) (ws : List Word) (ss : List Sym)
     → run ws room (more_choice ∷ ss) ≡ ends (r.choice (inside_of room) test ws) (λ x. run x.1 room ss)
@@ -208,9 +208,9 @@ choice_runs room within test (word.Question ∷ ws) ss =
     let o : List Word → Read Expr = r.or (inside_of room) in
     or_runs room within ws (need_colon ∷ want m.or ∷ ss)
     ∙ ends_then (o ws) (λ a. r.colon a.1 >>= (λ rest. o rest >>= (λ b. Ok (tree.Choose test a.0 b.0, b.1)))) (λ x. run x.1 room (need_colon ∷ want m.or ∷ ss)) k
-        (λ a is. colon_runs room a.1 (want m.or ∷ ss)
-            ∙ ends_then (r.colon a.1) (λ rest. o rest >>= (λ b. Ok (tree.Choose test a.0 b.0, b.1))) (λ rest. run rest room (want m.or ∷ ss)) k
-                (λ rest g. or_runs room within rest ss ∙ ends_then (o rest) (λ b. Ok (tree.Choose test a.0 b.0, b.1)) k k (λ b h. refl)))
+    (λ a is. colon_runs room a.1 (want m.or ∷ ss)
+    ∙ ends_then (r.colon a.1) (λ rest. o rest >>= (λ b. Ok (tree.Choose test a.0 b.0, b.1))) (λ rest. run rest room (want m.or ∷ ss)) k
+    (λ rest g. or_runs room within rest ss ∙ ends_then (o rest) (λ b. Ok (tree.Choose test a.0 b.0, b.1)) k k (λ b h. refl)))
 choice_runs room within test [] ss = refl
 choice_runs room within test (w ∷ ws) ss = refl
 

@@ -10,17 +10,18 @@ use Rattle.nb_syntax.specs.declared.tree.PathStep.TheVariants as path
 use Rattle.nb_syntax.specs.declared.tree.Operand.{Operand}
 use Rattle.nb_grammar.specs.Words.{product_sign, sum_sign, compare_sign}
 use Rattle.nb_grammar.specs.Reading as r
-use Rattle.nb_grammar.specs.Reading.{Read, ◌>>=◌, many, rounds, onward, inside_of, Inner}
+use Rattle.nb_grammar.specs.Reading.{Read, ◌>>=◌, rounds, inside_of}
 use Rattle.nb_grammar.specs.Grammar as g
-use Rattle.nb_grammar.specs.Grammar.{ExprWay, OrWay, OrParts, AndWay, AndParts, CompareWay, SumWay, Summands, ProductWay, Factors, UnaryWay, PostfixWay, Steps, PrimaryWay, Items, Pairs, PairWay, KeyWay, BlockWay, Stmts, StmtWay, ElseIfs, ElseWay, BodyWay, CellWay, CompareSign, SumSign, ProductSign}
+use Rattle.nb_grammar.specs.Trees as trees
+use Rattle.nb_grammar.specs.Grammar.{OrWay, SumWay, CompareSign, SumSign, ProductSign}
 use Rattle.nb_grammar.proofs.Turns.{Spelled, bind_ok, Sound, first_is, second_is, Turns, Stays, rounds_ok, close_square_ok, colon_ok, name_ok}
 use Rattle.nb_grammar.proofs.SoundPrimary.{SoundExpr, SoundInner, Within, opened_ok, primary_ok}
 
 -- steps
 pub step_ok : (room : ℕ) → Within SoundInner room → (ws mid rest : List Word) (a : PathStep) (found : List PathStep)
     → r.step (inside_of room) ws ≡ Ok (Some a, mid)
-    → Spelled g.steps_words g.steps_tree g.steps_depth room mid found rest
-    → Spelled g.steps_words g.steps_tree g.steps_depth room ws (a ∷ found) rest
+    → Spelled g.steps_words trees.steps_tree trees.steps_depth room mid found rest
+    → Spelled g.steps_words trees.steps_tree trees.steps_depth room ws (a ∷ found) rest
 step_ok room within (word.Dot ∷ ws) mid rest a found e s =
     let b = bind_ok (r.name ws) _ (Some a, mid) e in
     let k = name_ok ws b.0 b.1 in
@@ -52,11 +53,11 @@ step_stays room within [] x e none = second_is (None, []) x e
 step_stays room within (w ∷ ws) x e none = second_is (None, w ∷ ws) x e
 
 pub steps_ok : (room : ℕ) → Within SoundInner room → (found : List PathStep) (ws rest : List Word) → Turns (r.step (inside_of room)) found ws rest
-    → Spelled g.steps_words g.steps_tree g.steps_depth room ws found rest
+    → Spelled g.steps_words trees.steps_tree trees.steps_depth room ws found rest
 steps_ok room within [] ws rest t = record { way = g.no_step; words_are = sym t; tree_is = refl; deep = omega arith }
 steps_ok room within (a ∷ found) ws rest t = step_ok room within ws t.0 rest a found t.1 (steps_ok room within found t.0 rest t.2)
 
-pub postfix_ok : (room : ℕ) → Within SoundInner room → Sound (r.postfix (inside_of room)) g.postfix_words g.postfix_tree g.postfix_depth room
+pub postfix_ok : (room : ℕ) → Within SoundInner room → Sound (r.postfix (inside_of room)) g.postfix_words trees.postfix_tree trees.postfix_depth room
 postfix_ok room within ws x e =
     let a = bind_ok (r.primary (inside_of room) ws) _ x e in
     let b = bind_ok (rounds (r.step (inside_of room)) [] a.0.1) _ x a.2 in
@@ -68,16 +69,16 @@ postfix_ok room within ws x e =
     record { way = g.postfix v.way s.way; words_are = cc (v.words_are, s.words_are, u); tree_is = cc (v.tree_is, s.tree_is, m.1, t); deep = omega (arith, v.deep, s.deep) }
 
 pub unary_at : (room : ℕ) → Within SoundInner room → (s : g.UnarySign) (ws : List Word) (x : Expr × List Word)
-    → (r.postfix (inside_of room) ws >>= (λ e. Ok (tree.Unary (g.unary_operator s) e.0, e.1))) ≡ Ok x
-    → Spelled g.unary_words g.unary_tree g.unary_depth room (g.unary_word s ∷ ws) x.0 x.1
+    → (r.postfix (inside_of room) ws >>= (λ e. Ok (tree.Unary (trees.unary_operator s) e.0, e.1))) ≡ Ok x
+    → Spelled g.unary_words trees.unary_tree trees.unary_depth room (g.unary_word s ∷ ws) x.0 x.1
 unary_at room within s ws x e =
     let a = bind_ok (r.postfix (inside_of room) ws) _ x e in
     let v = postfix_ok room within ws a.0 a.1 in
-    let t = first_is (tree.Unary (g.unary_operator s) a.0.0, a.0.1) x a.2 in
-    let u = second_is (tree.Unary (g.unary_operator s) a.0.0, a.0.1) x a.2 in
-    record { way = g.signed s v.way; words_are = cc (v.words_are, u); tree_is = ap (λ h. tree.Unary (g.unary_operator s) h) v.tree_is ∙ t; deep = v.deep }
+    let t = first_is (tree.Unary (trees.unary_operator s) a.0.0, a.0.1) x a.2 in
+    let u = second_is (tree.Unary (trees.unary_operator s) a.0.0, a.0.1) x a.2 in
+    record { way = g.signed s v.way; words_are = cc (v.words_are, u); tree_is = ap (λ h. tree.Unary (trees.unary_operator s) h) v.tree_is ∙ t; deep = v.deep }
 
-pub unary_ok : (room : ℕ) → Within SoundInner room → Sound (r.unary (inside_of room)) g.unary_words g.unary_tree g.unary_depth room
+pub unary_ok : (room : ℕ) → Within SoundInner room → Sound (r.unary (inside_of room)) g.unary_words trees.unary_tree trees.unary_depth room
 unary_ok room within (word.Minus ∷ ws) x e = unary_at room within g.negative ws x e
 unary_ok room within (word.Not ∷ ws) x e = unary_at room within g.not ws x e
 unary_ok room within ws x e =
@@ -85,18 +86,18 @@ unary_ok room within ws x e =
     record { way = g.unsigned v.way; words_are = v.words_are; tree_is = v.tree_is; deep = v.deep }
 
 -- operators
-pub product_sign_ok : (w : Word) (s : Sign) → product_sign w ≡ Some s → (k : ProductSign) × (g.product_word k ≡ w) × (g.product_operator k ≡ s)
+pub product_sign_ok : (w : Word) (s : Sign) → product_sign w ≡ Some s → (k : ProductSign) × (g.product_word k ≡ w) × (trees.product_operator k ≡ s)
 product_sign_ok word.Times s e = (g.times, refl, cc)
 product_sign_ok word.Divide s e = (g.divide, refl, cc)
 product_sign_ok word.Remainder s e = (g.remainder, refl, cc)
 product_sign_ok _ s e = cc
 
-pub sum_sign_ok : (w : Word) (s : Sign) → sum_sign w ≡ Some s → (k : SumSign) × (g.sum_word k ≡ w) × (g.sum_operator k ≡ s)
+pub sum_sign_ok : (w : Word) (s : Sign) → sum_sign w ≡ Some s → (k : SumSign) × (g.sum_word k ≡ w) × (trees.sum_operator k ≡ s)
 sum_sign_ok word.Plus s e = (g.plus, refl, cc)
 sum_sign_ok word.Minus s e = (g.minus, refl, cc)
 sum_sign_ok _ s e = cc
 
-pub compare_sign_ok : (w : Word) (s : Sign) → compare_sign w ≡ Some s → (k : CompareSign) × (g.compare_word k ≡ w) × (g.compare_operator k ≡ s)
+pub compare_sign_ok : (w : Word) (s : Sign) → compare_sign w ≡ Some s → (k : CompareSign) × (g.compare_word k ≡ w) × (trees.compare_operator k ≡ s)
 compare_sign_ok word.Equal s e = (g.equal, refl, cc)
 compare_sign_ok word.NotEqual s e = (g.not_equal, refl, cc)
 compare_sign_ok word.Less s e = (g.less, refl, cc)
@@ -144,7 +145,7 @@ operand_stays sign part [] x e none = second_is (None, []) x e
 operand_stays sign part (w ∷ ws) x e none = signed_stays part (sign w) w ws x e none
 
 pub factors_ok : (room : ℕ) → Within SoundInner room → (found : List Operand) (ws rest : List Word) → Turns (r.operand product_sign (r.unary (inside_of room))) found ws rest
-    → Spelled g.factors_words g.factors_tree g.factors_depth room ws found rest
+    → Spelled g.factors_words trees.factors_tree trees.factors_depth room ws found rest
 factors_ok room within [] ws rest t = record { way = g.no_factor; words_are = sym t; tree_is = refl; deep = omega arith }
 factors_ok room within (a ∷ found) ws rest t =
     let o = operand_ok product_sign (r.unary (inside_of room)) ws t.0 a t.1 in
@@ -153,7 +154,7 @@ factors_ok room within (a ∷ found) ws rest t =
     let s = factors_ok room within found t.0 rest t.2 in
     record { way = g.factor k.0 v.way s.way; words_are = cc (v.words_are, s.words_are, k.1, o.words_are); tree_is = cc (v.tree_is, s.tree_is, k.2); deep = omega (arith, v.deep, s.deep) }
 
-pub product_ok : (room : ℕ) → Within SoundInner room → Sound (r.product (inside_of room)) g.product_words g.product_tree g.product_depth room
+pub product_ok : (room : ℕ) → Within SoundInner room → Sound (r.product (inside_of room)) g.product_words trees.product_tree trees.product_depth room
 product_ok room within ws x e =
     let a = bind_ok (r.unary (inside_of room) ws) _ x e in
     let next : List Word → Read (Option Operand) = r.operand product_sign (r.unary (inside_of room)) in
@@ -166,7 +167,7 @@ product_ok room within ws x e =
     record { way = g.product v.way s.way; words_are = cc (v.words_are, s.words_are, u); tree_is = cc (v.tree_is, s.tree_is, m.1, t); deep = omega (arith, v.deep, s.deep) }
 
 pub summands_ok : (room : ℕ) → Within SoundInner room → (found : List Operand) (ws rest : List Word) → Turns (r.operand sum_sign (r.product (inside_of room))) found ws rest
-    → Spelled g.summands_words g.summands_tree g.summands_depth room ws found rest
+    → Spelled g.summands_words trees.summands_tree trees.summands_depth room ws found rest
 summands_ok room within [] ws rest t = record { way = g.no_summand; words_are = sym t; tree_is = refl; deep = omega arith }
 summands_ok room within (a ∷ found) ws rest t =
     let o = operand_ok sum_sign (r.product (inside_of room)) ws t.0 a t.1 in
@@ -175,7 +176,7 @@ summands_ok room within (a ∷ found) ws rest t =
     let s = summands_ok room within found t.0 rest t.2 in
     record { way = g.summand k.0 v.way s.way; words_are = cc (v.words_are, s.words_are, k.1, o.words_are); tree_is = cc (v.tree_is, s.tree_is, k.2); deep = omega (arith, v.deep, s.deep) }
 
-pub sum_ok : (room : ℕ) → Within SoundInner room → Sound (r.sum (inside_of room)) g.sum_words g.sum_tree g.sum_depth room
+pub sum_ok : (room : ℕ) → Within SoundInner room → Sound (r.sum (inside_of room)) g.sum_words trees.sum_tree trees.sum_depth room
 sum_ok room within ws x e =
     let a = bind_ok (r.product (inside_of room) ws) _ x e in
     let next : List Word → Read (Option Operand) = r.operand sum_sign (r.product (inside_of room)) in
@@ -187,39 +188,43 @@ sum_ok room within ws x e =
     let u = second_is (r.sum_of a.0.0 b.0.0, b.0.1) x b.2 in
     record { way = g.sum v.way s.way; words_are = cc (v.words_are, s.words_are, u); tree_is = cc (v.tree_is, s.tree_is, m.1, t); deep = omega (arith, v.deep, s.deep) }
 
-pub compared_ok : (room : ℕ) → Within SoundInner room → (a : SumWay) → g.sum_depth a ≤ room → (o : Option Sign) (w : Word) → compare_sign w ≡ o
-    → (ws : List Word) (x : Expr × List Word) → r.compared (inside_of room) (g.sum_tree a) o w ws ≡ Ok x
-    → Spelled g.compare_words g.compare_tree g.compare_depth room (g.sum_words a (w ∷ ws)) x.0 x.1
+pub compared_ok : (room : ℕ) → Within SoundInner room → (a : SumWay) → trees.sum_depth a ≤ room → (o : Option Sign) (w : Word) → compare_sign w ≡ o
+    → (ws : List Word) (x : Expr × List Word) → r.compared (inside_of room) (trees.sum_tree a) o w ws ≡ Ok x
+    → Spelled g.compare_words trees.compare_tree trees.compare_depth room (g.sum_words a (w ∷ ws)) x.0 x.1
 compared_ok room within a deep None w is ws x e =
-    record { way = g.single a; words_are = ap (λ h. g.sum_words a h) (sym (second_is (g.sum_tree a, w ∷ ws) x e)); tree_is = first_is (g.sum_tree a, w ∷ ws) x e; deep = deep }
+    record { way = g.single a; words_are = ap (λ h. g.sum_words a h) (sym (second_is (trees.sum_tree a, w ∷ ws) x e)); tree_is = first_is (trees.sum_tree a, w ∷ ws) x e; deep = deep }
 compared_ok room within a deep (Some s) w is ws x e =
     let b = bind_ok (r.sum (inside_of room) ws) _ x e in
     let v = sum_ok room within ws b.0 b.1 in
     let k = compare_sign_ok w s is in
-    let t = first_is (tree.Compare s (g.sum_tree a) b.0.0, b.0.1) x b.2 in
-    let u = second_is (tree.Compare s (g.sum_tree a) b.0.0, b.0.1) x b.2 in
-    record { way = g.compare k.0 a v.way; words_are = cc (v.words_are, k.1, u);
-        tree_is = ap (λ h. tree.Compare h (g.sum_tree a) (g.sum_tree v.way)) k.2 ∙ ap (λ h. tree.Compare s (g.sum_tree a) h) v.tree_is ∙ t; deep = omega (arith, v.deep, deep) }
+    let t = first_is (tree.Compare s (trees.sum_tree a) b.0.0, b.0.1) x b.2 in
+    let u = second_is (tree.Compare s (trees.sum_tree a) b.0.0, b.0.1) x b.2 in
+    record {
+      way = g.compare k.0 a v.way;
+      words_are = cc (v.words_are, k.1, u);
+      tree_is = ap (λ h. tree.Compare h (trees.sum_tree a) (trees.sum_tree v.way)) k.2 ∙ ap (λ h. tree.Compare s (trees.sum_tree a) h) v.tree_is ∙ t;
+      deep = omega (arith, v.deep, deep);
+    }
 
-pub compare_at_ok : (room : ℕ) → Within SoundInner room → (a : SumWay) → g.sum_depth a ≤ room → (ws : List Word) (x : Expr × List Word)
-    → r.compare_at (inside_of room) (g.sum_tree a) ws ≡ Ok x
-    → Spelled g.compare_words g.compare_tree g.compare_depth room (g.sum_words a ws) x.0 x.1
+pub compare_at_ok : (room : ℕ) → Within SoundInner room → (a : SumWay) → trees.sum_depth a ≤ room → (ws : List Word) (x : Expr × List Word)
+    → r.compare_at (inside_of room) (trees.sum_tree a) ws ≡ Ok x
+    → Spelled g.compare_words trees.compare_tree trees.compare_depth room (g.sum_words a ws) x.0 x.1
 compare_at_ok room within a deep [] x e =
-    record { way = g.single a; words_are = ap (λ h. g.sum_words a h) (sym (second_is (g.sum_tree a, []) x e)); tree_is = first_is (g.sum_tree a, []) x e; deep = deep }
+    record { way = g.single a; words_are = ap (λ h. g.sum_words a h) (sym (second_is (trees.sum_tree a, []) x e)); tree_is = first_is (trees.sum_tree a, []) x e; deep = deep }
 compare_at_ok room within a deep (w ∷ ws) x e = compared_ok room within a deep (compare_sign w) w refl ws x e
 
-pub compare_ok : (room : ℕ) → Within SoundInner room → Sound (r.compare (inside_of room)) g.compare_words g.compare_tree g.compare_depth room
+pub compare_ok : (room : ℕ) → Within SoundInner room → Sound (r.compare (inside_of room)) g.compare_words trees.compare_tree trees.compare_depth room
 compare_ok room within ws x e =
     let a = bind_ok (r.sum (inside_of room) ws) _ x e in
     let v = sum_ok room within ws a.0 a.1 in
-    let f : r.compare_at (inside_of room) (g.sum_tree v.way) a.0.1 ≡ Ok x = ap (λ h. r.compare_at (inside_of room) h a.0.1) v.tree_is ∙ a.2 in
+    let f : r.compare_at (inside_of room) (trees.sum_tree v.way) a.0.1 ≡ Ok x = ap (λ h. r.compare_at (inside_of room) h a.0.1) v.tree_is ∙ a.2 in
     let s = compare_at_ok room within v.way v.deep a.0.1 x f in
     record { way = s.way; words_are = s.words_are ∙ v.words_are; tree_is = s.tree_is; deep = s.deep }
 
 pub and_part_ok : (room : ℕ) → Within SoundInner room → (ws mid rest : List Word) (a : Expr) (found : List Expr)
     → r.and_part (inside_of room) ws ≡ Ok (Some a, mid)
-    → Spelled g.and_parts_words g.and_parts_tree g.and_parts_depth room mid found rest
-    → Spelled g.and_parts_words g.and_parts_tree g.and_parts_depth room ws (a ∷ found) rest
+    → Spelled g.and_parts_words trees.and_parts_tree trees.and_parts_depth room mid found rest
+    → Spelled g.and_parts_words trees.and_parts_tree trees.and_parts_depth room ws (a ∷ found) rest
 and_part_ok room within (word.And ∷ ws) mid rest a found e s =
     let b = bind_ok (r.compare (inside_of room) ws) _ (Some a, mid) e in
     let v = compare_ok room within ws b.0 b.1 in
@@ -237,11 +242,11 @@ and_part_stays room [] x e none = second_is (None, []) x e
 and_part_stays room (w ∷ ws) x e none = second_is (None, w ∷ ws) x e
 
 pub and_parts_ok : (room : ℕ) → Within SoundInner room → (found : List Expr) (ws rest : List Word) → Turns (r.and_part (inside_of room)) found ws rest
-    → Spelled g.and_parts_words g.and_parts_tree g.and_parts_depth room ws found rest
+    → Spelled g.and_parts_words trees.and_parts_tree trees.and_parts_depth room ws found rest
 and_parts_ok room within [] ws rest t = record { way = g.no_and_part; words_are = sym t; tree_is = refl; deep = omega arith }
 and_parts_ok room within (a ∷ found) ws rest t = and_part_ok room within ws t.0 rest a found t.1 (and_parts_ok room within found t.0 rest t.2)
 
-pub and_ok : (room : ℕ) → Within SoundInner room → Sound (r.and (inside_of room)) g.and_words g.and_tree g.and_depth room
+pub and_ok : (room : ℕ) → Within SoundInner room → Sound (r.and (inside_of room)) g.and_words trees.and_tree trees.and_depth room
 and_ok room within ws x e =
     let a = bind_ok (r.compare (inside_of room) ws) _ x e in
     let b = bind_ok (rounds (r.and_part (inside_of room)) [] a.0.1) _ x a.2 in
@@ -254,8 +259,8 @@ and_ok room within ws x e =
 
 pub or_part_ok : (room : ℕ) → Within SoundInner room → (ws mid rest : List Word) (a : Expr) (found : List Expr)
     → r.or_part (inside_of room) ws ≡ Ok (Some a, mid)
-    → Spelled g.or_parts_words g.or_parts_tree g.or_parts_depth room mid found rest
-    → Spelled g.or_parts_words g.or_parts_tree g.or_parts_depth room ws (a ∷ found) rest
+    → Spelled g.or_parts_words trees.or_parts_tree trees.or_parts_depth room mid found rest
+    → Spelled g.or_parts_words trees.or_parts_tree trees.or_parts_depth room ws (a ∷ found) rest
 or_part_ok room within (word.Or ∷ ws) mid rest a found e s =
     let b = bind_ok (r.and (inside_of room) ws) _ (Some a, mid) e in
     let v = and_ok room within ws b.0 b.1 in
@@ -273,11 +278,11 @@ or_part_stays room [] x e none = second_is (None, []) x e
 or_part_stays room (w ∷ ws) x e none = second_is (None, w ∷ ws) x e
 
 pub or_parts_ok : (room : ℕ) → Within SoundInner room → (found : List Expr) (ws rest : List Word) → Turns (r.or_part (inside_of room)) found ws rest
-    → Spelled g.or_parts_words g.or_parts_tree g.or_parts_depth room ws found rest
+    → Spelled g.or_parts_words trees.or_parts_tree trees.or_parts_depth room ws found rest
 or_parts_ok room within [] ws rest t = record { way = g.no_or_part; words_are = sym t; tree_is = refl; deep = omega arith }
 or_parts_ok room within (a ∷ found) ws rest t = or_part_ok room within ws t.0 rest a found t.1 (or_parts_ok room within found t.0 rest t.2)
 
-pub or_ok : (room : ℕ) → Within SoundInner room → Sound (r.or (inside_of room)) g.or_words g.or_tree g.or_depth room
+pub or_ok : (room : ℕ) → Within SoundInner room → Sound (r.or (inside_of room)) g.or_words trees.or_tree trees.or_depth room
 or_ok room within ws x e =
     let a = bind_ok (r.and (inside_of room) ws) _ x e in
     let b = bind_ok (rounds (r.or_part (inside_of room)) [] a.0.1) _ x a.2 in
@@ -288,9 +293,9 @@ or_ok room within ws x e =
     let u = second_is (r.or_of a.0.0 b.0.0, b.0.1) x b.2 in
     record { way = g.or v.way s.way; words_are = cc (v.words_are, s.words_are, u); tree_is = cc (v.tree_is, s.tree_is, m.1, t); deep = omega (arith, v.deep, s.deep) }
 
-pub choice_ok : (room : ℕ) → Within SoundInner room → (c : OrWay) → g.or_depth c ≤ room → (ws : List Word) (x : Expr × List Word)
-    → r.choice (inside_of room) (g.or_tree c) ws ≡ Ok x
-    → Spelled g.expr_words g.expr_tree g.expr_depth room (g.or_words c ws) x.0 x.1
+pub choice_ok : (room : ℕ) → Within SoundInner room → (c : OrWay) → trees.or_depth c ≤ room → (ws : List Word) (x : Expr × List Word)
+    → r.choice (inside_of room) (trees.or_tree c) ws ≡ Ok x
+    → Spelled g.expr_words trees.expr_tree trees.expr_depth room (g.or_words c ws) x.0 x.1
 choice_ok room within c deep (word.Question ∷ ws) x e =
     let a = bind_ok (r.or (inside_of room) ws) _ x e in
     let b = bind_ok (r.colon a.0.1) _ x a.2 in
@@ -298,16 +303,16 @@ choice_ok room within c deep (word.Question ∷ ws) x e =
     let v = or_ok room within ws a.0 a.1 in
     let k = colon_ok a.0.1 b.0 b.1 in
     let s = or_ok room within b.0 d.0 d.1 in
-    let t = first_is (tree.Choose (g.or_tree c) a.0.0 d.0.0, d.0.1) x d.2 in
-    let u = second_is (tree.Choose (g.or_tree c) a.0.0 d.0.0, d.0.1) x d.2 in
+    let t = first_is (tree.Choose (trees.or_tree c) a.0.0 d.0.0, d.0.1) x d.2 in
+    let u = second_is (tree.Choose (trees.or_tree c) a.0.0 d.0.0, d.0.1) x d.2 in
     record { way = g.choose c v.way s.way; words_are = cc (v.words_are, s.words_are, k, u); tree_is = cc (v.tree_is, s.tree_is, t); deep = omega (arith, v.deep, s.deep) }
 choice_ok room within c deep ws x e =
-    record { way = g.plain c; words_are = ap (λ h. g.or_words c h) (sym (second_is (g.or_tree c, ws) x e)); tree_is = first_is (g.or_tree c, ws) x e; deep = deep }
+    record { way = g.plain c; words_are = ap (λ h. g.or_words c h) (sym (second_is (trees.or_tree c, ws) x e)); tree_is = first_is (trees.or_tree c, ws) x e; deep = deep }
 
 pub expr_ok : (room : ℕ) → Within SoundInner room → SoundExpr room
 expr_ok room within ws x e =
     let a = bind_ok (r.or (inside_of room) ws) _ x e in
     let v = or_ok room within ws a.0 a.1 in
-    let f : r.choice (inside_of room) (g.or_tree v.way) a.0.1 ≡ Ok x = ap (λ h. r.choice (inside_of room) h a.0.1) v.tree_is ∙ a.2 in
+    let f : r.choice (inside_of room) (trees.or_tree v.way) a.0.1 ≡ Ok x = ap (λ h. r.choice (inside_of room) h a.0.1) v.tree_is ∙ a.2 in
     let s = choice_ok room within v.way v.deep a.0.1 x f in
     record { way = s.way; words_are = s.words_are ∙ v.words_are; tree_is = s.tree_is; deep = s.deep }

@@ -10,17 +10,18 @@ use Rattle.nb_syntax.specs.declared.tree.Member.{Member}
 use Rattle.nb_grammar.specs.declared.fault.Fault.{Fault}
 use Rattle.nb_grammar.specs.Words.{called}
 use Rattle.nb_grammar.specs.Reading as r
-use Rattle.nb_grammar.specs.Reading.{Read, ◌>>=◌, many, rounds, onward, inside_of, Inner}
+use Rattle.nb_grammar.specs.Reading.{Read, many, rounds, inside_of, Inner}
 use Rattle.nb_grammar.specs.Grammar as g
-use Rattle.nb_grammar.specs.Grammar.{ExprWay, OrWay, OrParts, AndWay, AndParts, CompareWay, SumWay, Summands, ProductWay, Factors, UnaryWay, PostfixWay, Steps, PrimaryWay, Items, Pairs, PairWay, KeyWay, BlockWay, Stmts, StmtWay, ElseIfs, ElseWay, BodyWay, CellWay, CompareSign, SumSign, ProductSign}
+use Rattle.nb_grammar.specs.Trees as trees
+use Rattle.nb_grammar.specs.Grammar.{ExprWay, Items}
 use Rattle.nb_grammar.proofs.Names.{called_name, some_arguments, few_arguments}
-use Rattle.nb_grammar.proofs.Turns.{Spelled, bind_ok, Sound, first_is, second_is, Turns, Stays, rounds_ok, close_round_ok, close_square_ok, close_curly_ok, comma_ok, colon_ok, key_ok}
+use Rattle.nb_grammar.proofs.Turns.{Spelled, respelled, bind_ok, Sound, first_is, second_is, Turns, Stays, rounds_ok, close_round_ok, close_square_ok, close_curly_ok, comma_ok, colon_ok, key_ok}
 
 abbrev pub SoundExpr : ℕ → Type 0
-SoundExpr room = Sound (r.expr (inside_of room)) g.expr_words g.expr_tree g.expr_depth room
+SoundExpr room = Sound (r.expr (inside_of room)) g.expr_words trees.expr_tree trees.expr_depth room
 
 abbrev pub SoundStmts : ℕ → Type 0
-SoundStmts room = Sound (r.stmts (inside_of room)) (λ d ws. g.stmts_words d (word.CloseCurly ∷ ws)) g.stmts_tree g.stmts_depth room
+SoundStmts room = Sound (r.stmts (inside_of room)) (λ d ws. g.stmts_words d (word.CloseCurly ∷ ws)) trees.stmts_tree trees.stmts_depth room
 
 abbrev pub SoundInner : ℕ → Type 0
 SoundInner room = SoundExpr room × SoundStmts room
@@ -39,7 +40,7 @@ opened_ok P zero within ws go x e = cc
 opened_ok P (suc room) within ws go x e = (room, refl, within, e)
 
 pub in_round_ok : (room : ℕ) → Within SoundInner room
-    → Sound (r.in_round (inside_of room)) (λ d ws. g.expr_words d (word.CloseRound ∷ ws)) g.expr_tree (λ d. suc (g.expr_depth d)) room
+    → Sound (r.in_round (inside_of room)) (λ d ws. g.expr_words d (word.CloseRound ∷ ws)) trees.expr_tree (λ d. suc (trees.expr_depth d)) room
 in_round_ok room within ws x e =
     let o = opened_ok SoundInner room within ws _ x e in
     let a = bind_ok (r.expr (inside_of o.0) ws) _ x o.3 in
@@ -51,7 +52,7 @@ in_round_ok room within ws x e =
     record { way = s.way; words_are = cc (s.words_are, c, u); tree_is = cc (s.tree_is, t); deep = omega (arith, s.deep, o.1) }
 
 pub bracketed_ok : (room : ℕ) → Within SoundInner room
-    → Sound (r.bracketed (inside_of room)) (λ d ws. word.OpenRound ∷ g.expr_words d (word.CloseRound ∷ ws)) g.expr_tree (λ d. suc (g.expr_depth d)) room
+    → Sound (r.bracketed (inside_of room)) (λ d ws. word.OpenRound ∷ g.expr_words d (word.CloseRound ∷ ws)) trees.expr_tree (λ d. suc (trees.expr_depth d)) room
 bracketed_ok room within (word.OpenRound ∷ ws) x e =
     let s = in_round_ok room within ws x e in
     record { way = s.way; words_are = ap (λ h. word.OpenRound ∷ h) s.words_are; tree_is = s.tree_is; deep = s.deep }
@@ -66,8 +67,8 @@ count (g.item e more) = suc (count more)
 pub record Argued (room n : ℕ) (done : List Expr) (ws : List Word) (x : List Expr × List Word) : Type 0 where
   pub way : Items
   pub words_are : g.items_words way x.1 ≡ ws
-  pub tree_is : x.0 ≡ done ++ g.items_tree way
-  pub deep : g.items_depth way ≤ room
+  pub tree_is : x.0 ≡ done ++ trees.items_tree way
+  pub deep : trees.items_depth way ≤ room
   pub many : count way ≡ n
 
 pub arguments_ok : (room : ℕ) → SoundExpr room → (n : ℕ) (done : List Expr) (ws : List Word) (x : List Expr × List Word)
@@ -80,14 +81,18 @@ arguments_ok room sound (suc n) done ws x e =
     let v = sound a.0 b.0 b.1 in
     let k = comma_ok ws a.0 a.1 in
     let s = arguments_ok room sound n (done ++ b.0.0 ∷ []) b.0.1 x b.2 in
-    record { way = g.item v.way s.way; words_are = cc (v.words_are, s.words_are, k);
-        tree_is = s.tree_is ∙ append_assoc done (b.0.0 ∷ []) (g.items_tree s.way) ∙ ap (λ h. done ++ h ∷ g.items_tree s.way) (sym v.tree_is);
-        deep = omega (arith, v.deep, s.deep); many = ap (λ h. suc h) s.many }
+    record {
+      way = g.item v.way s.way;
+      words_are = cc (v.words_are, s.words_are, k);
+      tree_is = s.tree_is ∙ append_assoc done (b.0.0 ∷ []) (trees.items_tree s.way) ∙ ap (λ h. done ++ h ∷ trees.items_tree s.way) (sym v.tree_is);
+      deep = omega (arith, v.deep, s.deep);
+      many = ap (λ h. suc h) s.many;
+    }
 
 pub call_way : (room : ℕ) (f : Function) (a : ExprWay) (more : Items) (rest : List Word) → suc (count more) ≡ arity f
-    → suc (max (g.expr_depth a) (g.items_depth more)) ≤ room
-    → Spelled g.primary_words g.primary_tree g.primary_depth room
-        (word.Name (function_name f) ∷ word.OpenRound ∷ g.expr_words a (g.items_words more (word.CloseRound ∷ rest))) (tree.Call f (g.expr_tree a ∷ g.items_tree more)) rest
+    → suc (max (trees.expr_depth a) (trees.items_depth more)) ≤ room
+    → Spelled g.primary_words trees.primary_tree trees.primary_depth room
+    (word.Name (function_name f) ∷ word.OpenRound ∷ g.expr_words a (g.items_words more (word.CloseRound ∷ rest))) (tree.Call f (trees.expr_tree a ∷ trees.items_tree more)) rest
 call_way room f a g.no_item rest is deep = record { way = g.call1 f (sym is) a; words_are = refl; tree_is = refl; deep = omega (arith, deep) }
 call_way room f a (g.item b g.no_item) rest is deep = record { way = g.call2 f (sym is) a b; words_are = refl; tree_is = refl; deep = omega (arith, deep) }
 call_way room f a (g.item b (g.item c g.no_item)) rest is deep =
@@ -95,7 +100,7 @@ call_way room f a (g.item b (g.item c g.no_item)) rest is deep =
 call_way room f a (g.item b (g.item c (g.item d more))) rest is deep = absurd (omega (arith, is, few_arguments f))
 
 pub call_ok : (room : ℕ) → SoundExpr room → (f : Function) (ws : List Word) (x : Expr × List Word) → r.call (r.expr (inside_of room)) f ws ≡ Ok x
-    → Spelled g.primary_words g.primary_tree g.primary_depth (suc room) (word.Name (function_name f) ∷ word.OpenRound ∷ ws) x.0 x.1
+    → Spelled g.primary_words trees.primary_tree trees.primary_depth (suc room) (word.Name (function_name f) ∷ word.OpenRound ∷ ws) x.0 x.1
 call_ok room sound f ws x e =
     let p : List Word → Read Expr = r.expr (inside_of room) in
     let a = bind_ok (p ws) _ x e in
@@ -109,17 +114,22 @@ call_ok room sound f ws x e =
     let n : suc (count s.way) ≡ arity f = omega (arith, s.many, some_arguments f) in
     let z = call_way (suc room) f v.way s.way x.1 n (omega (arith, v.deep, s.deep)) in
     let w : g.expr_words v.way (g.items_words s.way (word.CloseRound ∷ x.1)) ≡ ws = cc (v.words_are, s.words_are, k, u) in
-    let l : g.expr_tree v.way ∷ g.items_tree s.way ≡ b.0.0 = ap (λ h. h ∷ g.items_tree s.way) v.tree_is ∙ sym s.tree_is in
-    record { way = z.way; words_are = z.words_are ∙ ap (λ h. word.Name (function_name f) ∷ word.OpenRound ∷ h) w;
-        tree_is = z.tree_is ∙ ap (λ h. tree.Call f h) l ∙ t; deep = z.deep }
+    let l : trees.expr_tree v.way ∷ trees.items_tree s.way ≡ b.0.0 = ap (λ h. h ∷ trees.items_tree s.way) v.tree_is ∙ sym s.tree_is in
+    respelled g.primary_words trees.primary_tree trees.primary_depth (suc room)
+    (word.Name (function_name f) ∷ word.OpenRound ∷ g.expr_words v.way (g.items_words s.way (word.CloseRound ∷ x.1))) (word.Name (function_name f) ∷ word.OpenRound ∷ ws)
+    (tree.Call f (trees.expr_tree v.way ∷ trees.items_tree s.way)) x.0 x.1 z (ap (λ h. word.Name (function_name f) ∷ word.OpenRound ∷ h) w) (ap (λ h. tree.Call f h) l ∙ t)
 
 pub named_ok : (room : ℕ) → Within SoundInner room → (n : List ℕ) (o : Option Function) → called n ≡ o → (ws : List Word) (x : Expr × List Word)
-    → r.named (inside_of room) n o ws ≡ Ok x → Spelled g.primary_words g.primary_tree g.primary_depth room (word.Name n ∷ ws) x.0 x.1
+    → r.named (inside_of room) n o ws ≡ Ok x → Spelled g.primary_words trees.primary_tree trees.primary_depth room (word.Name n ∷ ws) x.0 x.1
 named_ok room within n (Some f) is (word.OpenRound ∷ ws) x e =
     let o = opened_ok SoundInner room within ws _ x e in
     let s = call_ok o.0 o.2.0 f ws x o.3 in
-    record { way = s.way; words_are = s.words_are ∙ ap (λ h. word.Name h ∷ word.OpenRound ∷ ws) (sym (called_name n f is)); tree_is = s.tree_is;
-        deep = omega (arith, s.deep, o.1) }
+    record {
+      way = s.way;
+      words_are = s.words_are ∙ ap (λ h. word.Name h ∷ word.OpenRound ∷ ws) (sym (called_name n f is));
+      tree_is = s.tree_is;
+      deep = omega (arith, s.deep, o.1);
+    }
 named_ok room within n (Some f) is [] x e =
     record { way = g.name n; words_are = ap (λ h. word.Name n ∷ h) (sym (second_is (tree.Name n, []) x e)); tree_is = first_is (tree.Name n, []) x e; deep = omega arith }
 named_ok room within n (Some f) is (w ∷ ws) x e =
@@ -130,8 +140,8 @@ named_ok room within n None is ws x e =
 -- lists
 pub item_ok : (room : ℕ) → SoundExpr room → (ws mid rest : List Word) (a : Expr) (found : List Expr)
     → r.item (r.expr (inside_of room)) ws ≡ Ok (Some a, mid)
-    → Spelled g.items_words g.items_tree g.items_depth room mid found rest
-    → Spelled g.items_words g.items_tree g.items_depth room ws (a ∷ found) rest
+    → Spelled g.items_words trees.items_tree trees.items_depth room mid found rest
+    → Spelled g.items_words trees.items_tree trees.items_depth room ws (a ∷ found) rest
 item_ok room sound (word.Comma ∷ ws) mid rest a found e s =
     let b = bind_ok (r.expr (inside_of room) ws) _ (Some a, mid) e in
     let v = sound ws b.0 b.1 in
@@ -149,12 +159,12 @@ item_stays expr [] x e none = second_is (None, []) x e
 item_stays expr (w ∷ ws) x e none = second_is (None, w ∷ ws) x e
 
 pub items_ok : (room : ℕ) → SoundExpr room → (found : List Expr) (ws rest : List Word) → Turns (r.item (r.expr (inside_of room))) found ws rest
-    → Spelled g.items_words g.items_tree g.items_depth room ws found rest
+    → Spelled g.items_words trees.items_tree trees.items_depth room ws found rest
 items_ok room sound [] ws rest t = record { way = g.no_item; words_are = sym t; tree_is = refl; deep = omega arith }
 items_ok room sound (a ∷ found) ws rest t = item_ok room sound ws t.0 rest a found t.1 (items_ok room sound found t.0 rest t.2)
 
 pub some_items_ok : (room : ℕ) → SoundExpr room → (ws : List Word) (x : Expr × List Word) → r.some_items (r.expr (inside_of room)) ws ≡ Ok x
-    → Spelled g.primary_words g.primary_tree g.primary_depth (suc room) (word.OpenSquare ∷ ws) x.0 x.1
+    → Spelled g.primary_words trees.primary_tree trees.primary_depth (suc room) (word.OpenSquare ∷ ws) x.0 x.1
 some_items_ok room sound ws x e =
     let p : List Word → Read Expr = r.expr (inside_of room) in
     let a = bind_ok (p ws) _ x e in
@@ -166,18 +176,22 @@ some_items_ok room sound ws x e =
     let k = close_square_ok b.0.1 c.0 c.1 in
     let t = first_is (tree.List b.0.0, c.0) x c.2 in
     let u = second_is (tree.List b.0.0, c.0) x c.2 in
-    let l : g.expr_tree v.way ∷ g.items_tree s.way ≡ b.0.0 = ap (λ h. h ∷ g.items_tree s.way) v.tree_is ∙ ap (λ h. a.0.0 ∷ h) s.tree_is ∙ sym m.1 in
+    let l : trees.expr_tree v.way ∷ trees.items_tree s.way ≡ b.0.0 = ap (λ h. h ∷ trees.items_tree s.way) v.tree_is ∙ ap (λ h. a.0.0 ∷ h) s.tree_is ∙ sym m.1 in
     record { way = g.items v.way s.way; words_are = cc (v.words_are, s.words_are, k, u); tree_is = ap (λ h. tree.List h) l ∙ t; deep = omega (arith, v.deep, s.deep) }
 
 pub list_ok : (room : ℕ) → SoundExpr room → (ws : List Word) (x : Expr × List Word) → r.items (r.expr (inside_of room)) ws ≡ Ok x
-    → Spelled g.primary_words g.primary_tree g.primary_depth (suc room) (word.OpenSquare ∷ ws) x.0 x.1
+    → Spelled g.primary_words trees.primary_tree trees.primary_depth (suc room) (word.OpenSquare ∷ ws) x.0 x.1
 list_ok room sound (word.CloseSquare ∷ ws) x e =
-    record { way = g.no_items; words_are = ap (λ h. word.OpenSquare ∷ word.CloseSquare ∷ h) (sym (second_is (tree.List [], ws) x e));
-        tree_is = first_is (tree.List [], ws) x e; deep = omega arith }
+    record {
+      way = g.no_items;
+      words_are = ap (λ h. word.OpenSquare ∷ word.CloseSquare ∷ h) (sym (second_is (tree.List [], ws) x e));
+      tree_is = first_is (tree.List [], ws) x e;
+      deep = omega arith;
+    }
 list_ok room sound ws x e = some_items_ok room sound ws x e
 
 -- records
-pub pair_ok : (room : ℕ) → SoundExpr room → Sound (r.pair (r.expr (inside_of room))) g.pair_words g.pair_tree g.pair_depth room
+pub pair_ok : (room : ℕ) → SoundExpr room → Sound (r.pair (r.expr (inside_of room))) g.pair_words trees.pair_tree trees.pair_depth room
 pair_ok room sound ws x e =
     let a = bind_ok (r.key ws) _ x e in
     let b = bind_ok (r.colon a.0.1) _ x a.2 in
@@ -188,22 +202,26 @@ pair_ok room sound ws x e =
     let f : Member = record { key = a.0.0; value = c.0.0 } in
     let t = first_is (f, c.0.1) x c.2 in
     let u = second_is (f, c.0.1) x c.2 in
-    let tk : (let z : Member = record { key = g.key_text n.way; value = g.expr_tree v.way } in z ≡ f) =
-        ap (λ h. let z : Member = record { key = h; value = g.expr_tree v.way } in z) n.text_is ∙ ap (λ h. let z : Member = record { key = a.0.0; value = h } in z) v.tree_is in
+    let tk : (let z : Member = record { key = trees.key_text n.way; value = trees.expr_tree v.way } in z ≡ f) =
+    ap (λ h. let z : Member = record { key = h; value = trees.expr_tree v.way } in z) n.text_is ∙ ap (λ h. let z : Member = record { key = a.0.0; value = h } in z) v.tree_is in
     record { way = g.pair n.way v.way; words_are = cc (v.words_are, n.words_are, k, u); tree_is = tk ∙ t; deep = v.deep }
 
 pub next_pair_ok : (room : ℕ) → SoundExpr room → (ws mid rest : List Word) (a : Member) (found : List Member)
     → r.next_pair (r.expr (inside_of room)) ws ≡ Ok (Some a, mid)
-    → Spelled g.pairs_words g.pairs_tree g.pairs_depth room mid found rest
-    → Spelled g.pairs_words g.pairs_tree g.pairs_depth room ws (a ∷ found) rest
+    → Spelled g.pairs_words trees.pairs_tree trees.pairs_depth room mid found rest
+    → Spelled g.pairs_words trees.pairs_tree trees.pairs_depth room ws (a ∷ found) rest
 next_pair_ok room sound (word.Comma ∷ ws) mid rest a found e s =
     let b = bind_ok (r.pair (r.expr (inside_of room)) ws) _ (Some a, mid) e in
     let v = pair_ok room sound ws b.0 b.1 in
     let t = first_is (Some b.0.0, b.0.1) (Some a, mid) b.2 in
     let u = second_is (Some b.0.0, b.0.1) (Some a, mid) b.2 in
     let k : b.0.0 ≡ a = cc in
-    record { way = g.next_pair v.way s.way; words_are = ap (λ h. word.Comma ∷ g.pair_words v.way h) (s.words_are ∙ sym u) ∙ ap (λ h. word.Comma ∷ h) v.words_are;
-        tree_is = ap (λ h. g.pair_tree v.way ∷ h) s.tree_is ∙ ap (λ h. h ∷ found) (v.tree_is ∙ k); deep = omega (arith, v.deep, s.deep) }
+    record {
+      way = g.next_pair v.way s.way;
+      words_are = ap (λ h. word.Comma ∷ g.pair_words v.way h) (s.words_are ∙ sym u) ∙ ap (λ h. word.Comma ∷ h) v.words_are;
+      tree_is = ap (λ h. trees.pair_tree v.way ∷ h) s.tree_is ∙ ap (λ h. h ∷ found) (v.tree_is ∙ k);
+      deep = omega (arith, v.deep, s.deep);
+    }
 next_pair_ok room sound [] mid rest a found e s = cc (first_is (None, []) (Some a, mid) e)
 next_pair_ok room sound (w ∷ ws) mid rest a found e s = cc (first_is (None, w ∷ ws) (Some a, mid) e)
 
@@ -215,12 +233,12 @@ next_pair_stays expr [] x e none = second_is (None, []) x e
 next_pair_stays expr (w ∷ ws) x e none = second_is (None, w ∷ ws) x e
 
 pub pairs_ok : (room : ℕ) → SoundExpr room → (found : List Member) (ws rest : List Word) → Turns (r.next_pair (r.expr (inside_of room))) found ws rest
-    → Spelled g.pairs_words g.pairs_tree g.pairs_depth room ws found rest
+    → Spelled g.pairs_words trees.pairs_tree trees.pairs_depth room ws found rest
 pairs_ok room sound [] ws rest t = record { way = g.no_pair; words_are = sym t; tree_is = refl; deep = omega arith }
 pairs_ok room sound (a ∷ found) ws rest t = next_pair_ok room sound ws t.0 rest a found t.1 (pairs_ok room sound found t.0 rest t.2)
 
 pub some_pairs_ok : (room : ℕ) → SoundExpr room → (ws : List Word) (x : Expr × List Word) → r.some_pairs (r.expr (inside_of room)) ws ≡ Ok x
-    → Spelled g.primary_words g.primary_tree g.primary_depth (suc room) (word.OpenCurly ∷ ws) x.0 x.1
+    → Spelled g.primary_words trees.primary_tree trees.primary_depth (suc room) (word.OpenCurly ∷ ws) x.0 x.1
 some_pairs_ok room sound ws x e =
     let p : List Word → Read Expr = r.expr (inside_of room) in
     let a = bind_ok (r.pair p ws) _ x e in
@@ -233,18 +251,26 @@ some_pairs_ok room sound ws x e =
     let t = first_is (tree.Rec b.0.0, c.0) x c.2 in
     let u = second_is (tree.Rec b.0.0, c.0) x c.2 in
     let is : g.pairs_words s.way (word.CloseCurly ∷ x.1) ≡ a.0.1 = cc (s.words_are, k, u) in
-    let l : g.pair_tree v.way ∷ g.pairs_tree s.way ≡ b.0.0 = ap (λ h. h ∷ g.pairs_tree s.way) v.tree_is ∙ ap (λ h. a.0.0 ∷ h) s.tree_is ∙ sym m.1 in
-    record { way = g.pairs v.way s.way; words_are = ap (λ h. word.OpenCurly ∷ g.pair_words v.way h) is ∙ ap (λ h. word.OpenCurly ∷ h) v.words_are;
-        tree_is = ap (λ h. tree.Rec h) l ∙ t; deep = omega (arith, v.deep, s.deep) }
+    let l : trees.pair_tree v.way ∷ trees.pairs_tree s.way ≡ b.0.0 = ap (λ h. h ∷ trees.pairs_tree s.way) v.tree_is ∙ ap (λ h. a.0.0 ∷ h) s.tree_is ∙ sym m.1 in
+    record {
+      way = g.pairs v.way s.way;
+      words_are = ap (λ h. word.OpenCurly ∷ g.pair_words v.way h) is ∙ ap (λ h. word.OpenCurly ∷ h) v.words_are;
+      tree_is = ap (λ h. tree.Rec h) l ∙ t;
+      deep = omega (arith, v.deep, s.deep);
+    }
 
 pub record_ok : (room : ℕ) → SoundExpr room → (ws : List Word) (x : Expr × List Word) → r.pairs (r.expr (inside_of room)) ws ≡ Ok x
-    → Spelled g.primary_words g.primary_tree g.primary_depth (suc room) (word.OpenCurly ∷ ws) x.0 x.1
+    → Spelled g.primary_words trees.primary_tree trees.primary_depth (suc room) (word.OpenCurly ∷ ws) x.0 x.1
 record_ok room sound (word.CloseCurly ∷ ws) x e =
-    record { way = g.no_pairs; words_are = ap (λ h. word.OpenCurly ∷ word.CloseCurly ∷ h) (sym (second_is (tree.Rec [], ws) x e));
-        tree_is = first_is (tree.Rec [], ws) x e; deep = omega arith }
+    record {
+      way = g.no_pairs;
+      words_are = ap (λ h. word.OpenCurly ∷ word.CloseCurly ∷ h) (sym (second_is (tree.Rec [], ws) x e));
+      tree_is = first_is (tree.Rec [], ws) x e;
+      deep = omega arith;
+    }
 record_ok room sound ws x e = some_pairs_ok room sound ws x e
 
-pub primary_ok : (room : ℕ) → Within SoundInner room → Sound (r.primary (inside_of room)) g.primary_words g.primary_tree g.primary_depth room
+pub primary_ok : (room : ℕ) → Within SoundInner room → Sound (r.primary (inside_of room)) g.primary_words trees.primary_tree trees.primary_depth room
 primary_ok room within (word.Number n ∷ ws) x e =
     record { way = g.number n; words_are = ap (λ h. word.Number n ∷ h) (sym (second_is (tree.Int n, ws) x e)); tree_is = first_is (tree.Int n, ws) x e; deep = omega arith }
 primary_ok room within (word.Quoted n ∷ ws) x e =

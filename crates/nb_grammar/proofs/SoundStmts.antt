@@ -8,15 +8,16 @@ use Rattle.nb_syntax.specs.declared.tree.Arm.{Arm}
 use Rattle.nb_syntax.specs.declared.tree.Stmt.{Stmt}
 use Rattle.nb_syntax.specs.declared.tree.Stmt.TheVariants as stmt
 use Rattle.nb_grammar.specs.Reading as r
-use Rattle.nb_grammar.specs.Reading.{Read, ◌>>=◌, many, rounds, onward, inside_of, Inner}
+use Rattle.nb_grammar.specs.Reading.{Read, ◌>>=◌, rounds, inside_of}
 use Rattle.nb_grammar.specs.Grammar as g
-use Rattle.nb_grammar.specs.Grammar.{ExprWay, OrWay, OrParts, AndWay, AndParts, CompareWay, SumWay, Summands, ProductWay, Factors, UnaryWay, PostfixWay, Steps, PrimaryWay, Items, Pairs, PairWay, KeyWay, BlockWay, Stmts, StmtWay, ElseIfs, ElseWay, BodyWay, CellWay, CompareSign, SumSign, ProductSign}
+use Rattle.nb_grammar.specs.Trees as trees
+use Rattle.nb_grammar.specs.Grammar.{ExprWay, BlockWay}
 use Rattle.nb_grammar.proofs.Turns.{Spelled, bind_ok, Sound, first_is, second_is, Turns, Stays, rounds_ok, close_round_ok, close_curly_ok, semicolon_ok, assign_ok, let_word_ok, of_word_ok, name_ok}
 use Rattle.nb_grammar.proofs.SoundPrimary.{SoundExpr, SoundStmts, SoundInner, Within, opened_ok, bracketed_ok}
 use Rattle.nb_grammar.proofs.SoundExpr.{expr_ok}
 
 -- blocks
-pub block_ok : (room : ℕ) → Within SoundInner room → Sound (r.block (inside_of room)) g.block_words g.block_tree g.block_depth room
+pub block_ok : (room : ℕ) → Within SoundInner room → Sound (r.block (inside_of room)) g.block_words trees.block_tree trees.block_depth room
 block_ok room within (word.OpenCurly ∷ ws) x e =
     let o = opened_ok SoundInner room within ws _ x e in
     let a = bind_ok (r.stmts (inside_of o.0) ws) _ x o.3 in
@@ -29,7 +30,7 @@ block_ok room within [] x e = cc
 block_ok room within (w ∷ ws) x e = cc
 
 -- expr ";"
-pub ended_ok : (room : ℕ) → SoundExpr room → Sound (r.ended (inside_of room)) (λ d ws. g.expr_words d (word.Semicolon ∷ ws)) g.expr_tree g.expr_depth room
+pub ended_ok : (room : ℕ) → SoundExpr room → Sound (r.ended (inside_of room)) (λ d ws. g.expr_words d (word.Semicolon ∷ ws)) trees.expr_tree trees.expr_depth room
 ended_ok room sound ws x e =
     let a = bind_ok (r.expr (inside_of room) ws) _ x e in
     let b = bind_ok (r.semicolon a.0.1) _ x a.2 in
@@ -44,8 +45,8 @@ pub record Armed (room : ℕ) (ws : List Word) (a : Arm) (rest : List Word) : Ty
   pub test : ExprWay
   pub block : BlockWay
   pub words_are : word.OpenRound ∷ g.expr_words test (word.CloseRound ∷ g.block_words block rest) ≡ ws
-  pub tree_is : (let z : Arm = record { test = g.expr_tree test; body = g.block_tree block } in z ≡ a)
-  pub deep : max (suc (g.expr_depth test)) (g.block_depth block) ≤ room
+  pub tree_is : (let z : Arm = record { test = trees.expr_tree test; body = trees.block_tree block } in z ≡ a)
+  pub deep : max (suc (trees.expr_depth test)) (trees.block_depth block) ≤ room
 
 pub arm_ok : (room : ℕ) → Within SoundInner room → (ws : List Word) (x : Arm × List Word) → r.arm (inside_of room) ws ≡ Ok x → Armed room ws x.0 x.1
 arm_ok room within ws x e =
@@ -57,14 +58,18 @@ arm_ok room within ws x e =
     let t = first_is (m, b.0.1) x b.2 in
     let u = second_is (m, b.0.1) x b.2 in
     let w : g.block_words s.way x.1 ≡ a.0.1 = cc (s.words_are, u) in
-    record { test = v.way; block = s.way; words_are = ap (λ h. word.OpenRound ∷ g.expr_words v.way (word.CloseRound ∷ h)) w ∙ v.words_are;
-        tree_is = ap (λ h. let z : Arm = record { test = h; body = g.block_tree s.way } in z) v.tree_is ∙ ap (λ h. let z : Arm = record { test = a.0.0; body = h } in z) s.tree_is ∙ t;
-        deep = omega (arith, v.deep, s.deep) }
+    record {
+      test = v.way;
+      block = s.way;
+      words_are = ap (λ h. word.OpenRound ∷ g.expr_words v.way (word.CloseRound ∷ h)) w ∙ v.words_are;
+      tree_is = ap (λ h. let z : Arm = record { test = h; body = trees.block_tree s.way } in z) v.tree_is ∙ ap (λ h. let z : Arm = record { test = a.0.0; body = h } in z) s.tree_is ∙ t;
+      deep = omega (arith, v.deep, s.deep);
+    }
 
 pub else_if_ok : (room : ℕ) → Within SoundInner room → (ws mid rest : List Word) (a : Arm) (found : List Arm)
     → r.else_if (inside_of room) ws ≡ Ok (Some a, mid)
-    → Spelled g.else_ifs_words g.else_ifs_tree g.else_ifs_depth room mid found rest
-    → Spelled g.else_ifs_words g.else_ifs_tree g.else_ifs_depth room ws (a ∷ found) rest
+    → Spelled g.else_ifs_words trees.else_ifs_tree trees.else_ifs_depth room mid found rest
+    → Spelled g.else_ifs_words trees.else_ifs_tree trees.else_ifs_depth room ws (a ∷ found) rest
 else_if_ok room within (word.Else ∷ word.If ∷ ws) mid rest a found e s =
     let b = bind_ok (r.arm (inside_of room) ws) _ (Some a, mid) e in
     let v = arm_ok room within ws b.0 b.1 in
@@ -72,9 +77,12 @@ else_if_ok room within (word.Else ∷ word.If ∷ ws) mid rest a found e s =
     let u = second_is (Some b.0.0, b.0.1) (Some a, mid) b.2 in
     let k : b.0.0 ≡ a = cc in
     let w : g.else_ifs_words s.way rest ≡ b.0.1 = s.words_are ∙ sym u in
-    record { way = g.else_if v.test v.block s.way;
-        words_are = ap (λ h. word.Else ∷ word.If ∷ word.OpenRound ∷ g.expr_words v.test (word.CloseRound ∷ g.block_words v.block h)) w ∙ ap (λ h. word.Else ∷ word.If ∷ h) v.words_are;
-        tree_is = ap (λ h. h ∷ g.else_ifs_tree s.way) (v.tree_is ∙ k) ∙ ap (λ h. a ∷ h) s.tree_is; deep = omega (arith, v.deep, s.deep) }
+    record {
+      way = g.else_if v.test v.block s.way;
+      words_are = ap (λ h. word.Else ∷ word.If ∷ word.OpenRound ∷ g.expr_words v.test (word.CloseRound ∷ g.block_words v.block h)) w ∙ ap (λ h. word.Else ∷ word.If ∷ h) v.words_are;
+      tree_is = ap (λ h. h ∷ trees.else_ifs_tree s.way) (v.tree_is ∙ k) ∙ ap (λ h. a ∷ h) s.tree_is;
+      deep = omega (arith, v.deep, s.deep);
+    }
 else_if_ok room within (word.Else ∷ []) mid rest a found e s = cc (first_is (None, word.Else ∷ []) (Some a, mid) e)
 else_if_ok room within (word.Else ∷ w ∷ ws) mid rest a found e s = cc (first_is (None, word.Else ∷ w ∷ ws) (Some a, mid) e)
 else_if_ok room within [] mid rest a found e s = cc (first_is (None, []) (Some a, mid) e)
@@ -90,11 +98,11 @@ else_if_stays room [] x e none = second_is (None, []) x e
 else_if_stays room (w ∷ ws) x e none = second_is (None, w ∷ ws) x e
 
 pub else_ifs_ok : (room : ℕ) → Within SoundInner room → (found : List Arm) (ws rest : List Word) → Turns (r.else_if (inside_of room)) found ws rest
-    → Spelled g.else_ifs_words g.else_ifs_tree g.else_ifs_depth room ws found rest
+    → Spelled g.else_ifs_words trees.else_ifs_tree trees.else_ifs_depth room ws found rest
 else_ifs_ok room within [] ws rest t = record { way = g.no_else_if; words_are = sym t; tree_is = refl; deep = omega arith }
 else_ifs_ok room within (a ∷ found) ws rest t = else_if_ok room within ws t.0 rest a found t.1 (else_ifs_ok room within found t.0 rest t.2)
 
-pub otherwise_ok : (room : ℕ) → Within SoundInner room → Sound (r.otherwise (inside_of room)) g.else_words g.else_tree g.else_depth room
+pub otherwise_ok : (room : ℕ) → Within SoundInner room → Sound (r.otherwise (inside_of room)) g.else_words trees.else_tree trees.else_depth room
 otherwise_ok room within (word.Else ∷ ws) x e =
     let a = bind_ok (r.block (inside_of room) ws) _ x e in
     let v = block_ok room within ws a.0 a.1 in
@@ -107,7 +115,7 @@ otherwise_ok room within (w ∷ ws) x e =
 
 -- statements, behind their first words
 pub assignment_ok : (room : ℕ) → SoundExpr room → (n : List ℕ) (ws : List Word) (x : Stmt × List Word) → r.assignment (inside_of room) n ws ≡ Ok x
-    → Spelled g.stmt_words g.stmt_tree g.stmt_depth room (word.Name n ∷ ws) x.0 x.1
+    → Spelled g.stmt_words trees.stmt_tree trees.stmt_depth room (word.Name n ∷ ws) x.0 x.1
 assignment_ok room sound n ws x e =
     let a = bind_ok (r.assign ws) _ x e in
     let b = bind_ok (r.ended (inside_of room) a.0) _ x a.2 in
@@ -118,7 +126,7 @@ assignment_ok room sound n ws x e =
     record { way = g.assign_stmt n v.way; words_are = cc (v.words_are, k, u); tree_is = ap (λ h. stmt.Assign n h) v.tree_is ∙ t; deep = v.deep }
 
 pub let_ok : (room : ℕ) → SoundExpr room → (ws : List Word) (x : Stmt × List Word) → r.let_stmt (inside_of room) ws ≡ Ok x
-    → Spelled g.stmt_words g.stmt_tree g.stmt_depth room (word.Let ∷ ws) x.0 x.1
+    → Spelled g.stmt_words trees.stmt_tree trees.stmt_depth room (word.Let ∷ ws) x.0 x.1
 let_ok room sound ws x e =
     let n = bind_ok (r.name ws) _ x e in
     let a = bind_ok (r.assign n.0.1) _ x n.2 in
@@ -131,7 +139,7 @@ let_ok room sound ws x e =
     record { way = g.let_stmt n.0.0 v.way; words_are = cc (v.words_are, k, l, u); tree_is = ap (λ h. stmt.Let n.0.0 h) v.tree_is ∙ t; deep = v.deep }
 
 pub if_ok : (room : ℕ) → Within SoundInner room → (ws : List Word) (x : Stmt × List Word) → r.if_stmt (inside_of room) ws ≡ Ok x
-    → Spelled g.stmt_words g.stmt_tree g.stmt_depth room (word.If ∷ ws) x.0 x.1
+    → Spelled g.stmt_words trees.stmt_tree trees.stmt_depth room (word.If ∷ ws) x.0 x.1
 if_ok room within ws x e =
     let a = bind_ok (r.arm (inside_of room) ws) _ x e in
     let b = bind_ok (rounds (r.else_if (inside_of room)) (a.0.0 ∷ []) a.0.1) _ x a.2 in
@@ -143,28 +151,34 @@ if_ok room within ws x e =
     let t = first_is (stmt.If b.0.0 c.0.0, c.0.1) x c.2 in
     let u = second_is (stmt.If b.0.0 c.0.0, c.0.1) x c.2 in
     let w : g.else_ifs_words s.way (g.else_words o.way x.1) ≡ a.0.1 = cc (s.words_are, o.words_are, u) in
-    let l : (let z : Arm = record { test = g.expr_tree v.test; body = g.block_tree v.block } in z ∷ g.else_ifs_tree s.way ≡ b.0.0) =
-        ap (λ h. h ∷ g.else_ifs_tree s.way) v.tree_is ∙ ap (λ h. a.0.0 ∷ h) s.tree_is ∙ sym m.1 in
-    record { way = g.if_stmt v.test v.block s.way o.way;
-        words_are = ap (λ h. word.If ∷ word.OpenRound ∷ g.expr_words v.test (word.CloseRound ∷ g.block_words v.block h)) w ∙ ap (λ h. word.If ∷ h) v.words_are;
-        tree_is = ap (λ h. stmt.If h (g.else_tree o.way)) l ∙ ap (λ h. stmt.If b.0.0 h) o.tree_is ∙ t; deep = omega (arith, v.deep, s.deep, o.deep) }
+    let l : (let z : Arm = record { test = trees.expr_tree v.test; body = trees.block_tree v.block } in z ∷ trees.else_ifs_tree s.way ≡ b.0.0) =
+    ap (λ h. h ∷ trees.else_ifs_tree s.way) v.tree_is ∙ ap (λ h. a.0.0 ∷ h) s.tree_is ∙ sym m.1 in
+    record {
+      way = g.if_stmt v.test v.block s.way o.way;
+      words_are = ap (λ h. word.If ∷ word.OpenRound ∷ g.expr_words v.test (word.CloseRound ∷ g.block_words v.block h)) w ∙ ap (λ h. word.If ∷ h) v.words_are;
+      tree_is = ap (λ h. stmt.If h (trees.else_tree o.way)) l ∙ ap (λ h. stmt.If b.0.0 h) o.tree_is ∙ t;
+      deep = omega (arith, v.deep, s.deep, o.deep);
+    }
 
 pub while_ok : (room : ℕ) → Within SoundInner room → (ws : List Word) (x : Stmt × List Word) → r.while_stmt (inside_of room) ws ≡ Ok x
-    → Spelled g.stmt_words g.stmt_tree g.stmt_depth room (word.While ∷ ws) x.0 x.1
+    → Spelled g.stmt_words trees.stmt_tree trees.stmt_depth room (word.While ∷ ws) x.0 x.1
 while_ok room within ws x e =
     let a = bind_ok (r.arm (inside_of room) ws) _ x e in
     let v = arm_ok room within ws a.0 a.1 in
     let t = first_is (stmt.While a.0.0.test a.0.0.body, a.0.1) x a.2 in
     let u = second_is (stmt.While a.0.0.test a.0.0.body, a.0.1) x a.2 in
-    record { way = g.while_stmt v.test v.block;
-        words_are = ap (λ h. word.While ∷ word.OpenRound ∷ g.expr_words v.test (word.CloseRound ∷ g.block_words v.block h)) (sym u) ∙ ap (λ h. word.While ∷ h) v.words_are;
-        tree_is = ap (λ (h : Arm). stmt.While h.test h.body) v.tree_is ∙ t; deep = v.deep }
+    record {
+      way = g.while_stmt v.test v.block;
+      words_are = ap (λ h. word.While ∷ word.OpenRound ∷ g.expr_words v.test (word.CloseRound ∷ g.block_words v.block h)) (sym u) ∙ ap (λ h. word.While ∷ h) v.words_are;
+      tree_is = ap (λ (h : Arm). stmt.While h.test h.body) v.tree_is ∙ t;
+      deep = v.deep;
+    }
 
 pub record Eached (room : ℕ) (ws : List Word) (x : List ℕ × Expr) (rest : List Word) : Type 0 where
   pub way : ExprWay
   pub words_are : word.Let ∷ word.Name x.0 ∷ word.Of ∷ g.expr_words way (word.CloseRound ∷ rest) ≡ ws
-  pub tree_is : g.expr_tree way ≡ x.1
-  pub deep : g.expr_depth way ≤ room
+  pub tree_is : trees.expr_tree way ≡ x.1
+  pub deep : trees.expr_depth way ≤ room
 
 pub each_of_ok : (room : ℕ) → SoundExpr room → (ws : List Word) (x : (List ℕ × Expr) × List Word) → r.each_of (r.expr (inside_of room)) ws ≡ Ok x → Eached room ws x.0 x.1
 each_of_ok room sound ws x e =
@@ -185,7 +199,7 @@ each_of_ok room sound ws x e =
     record { way = v.way; words_are = cc (v.words_are, ka, kb, kc, kf, u, tn); tree_is = v.tree_is ∙ te; deep = v.deep }
 
 pub for_ok : (room : ℕ) → Within SoundInner room → (ws : List Word) (x : Stmt × List Word) → r.for_stmt (inside_of room) ws ≡ Ok x
-    → Spelled g.stmt_words g.stmt_tree g.stmt_depth room (word.For ∷ ws) x.0 x.1
+    → Spelled g.stmt_words trees.stmt_tree trees.stmt_depth room (word.For ∷ ws) x.0 x.1
 for_ok room within (word.OpenRound ∷ ws) x e =
     let a = bind_ok (r.each (inside_of room) (word.OpenRound ∷ ws)) _ x e in
     let b = bind_ok (r.block (inside_of room) a.0.1) _ x a.2 in
@@ -195,9 +209,12 @@ for_ok room within (word.OpenRound ∷ ws) x e =
     let t = first_is (stmt.For a.0.0.0 a.0.0.1 b.0.0, b.0.1) x b.2 in
     let u = second_is (stmt.For a.0.0.0 a.0.0.1 b.0.0, b.0.1) x b.2 in
     let w : g.block_words s.way x.1 ≡ a.0.1 = cc (s.words_are, u) in
-    record { way = g.for_stmt a.0.0.0 v.way s.way;
-        words_are = ap (λ h. word.For ∷ word.OpenRound ∷ word.Let ∷ word.Name a.0.0.0 ∷ word.Of ∷ g.expr_words v.way (word.CloseRound ∷ h)) w ∙ ap (λ h. word.For ∷ word.OpenRound ∷ h) v.words_are;
-        tree_is = ap (λ h. stmt.For a.0.0.0 h (g.block_tree s.way)) v.tree_is ∙ ap (λ h. stmt.For a.0.0.0 a.0.0.1 h) s.tree_is ∙ t; deep = omega (arith, v.deep, s.deep, o.1) }
+    record {
+      way = g.for_stmt a.0.0.0 v.way s.way;
+      words_are = ap (λ h. word.For ∷ word.OpenRound ∷ word.Let ∷ word.Name a.0.0.0 ∷ word.Of ∷ g.expr_words v.way (word.CloseRound ∷ h)) w ∙ ap (λ h. word.For ∷ word.OpenRound ∷ h) v.words_are;
+      tree_is = ap (λ h. stmt.For a.0.0.0 h (trees.block_tree s.way)) v.tree_is ∙ ap (λ h. stmt.For a.0.0.0 a.0.0.1 h) s.tree_is ∙ t;
+      deep = omega (arith, v.deep, s.deep, o.1);
+    }
 for_ok room within [] x e = cc
 for_ok room within (w ∷ ws) x e = cc
 
@@ -211,7 +228,7 @@ some_stmt_ok read ws mid a e =
 
 pub some_ended_ok : (room : ℕ) → SoundExpr room → (make : Expr → Stmt) (ws mid : List Word) (a : Stmt)
     → (r.ended (inside_of room) ws >>= (λ e. let y : Read (Option Stmt) = Ok (Some (make e.0), e.1) in y)) ≡ Ok (Some a, mid)
-    → Spelled (λ d ws. g.expr_words d (word.Semicolon ∷ ws)) (λ d. make (g.expr_tree d)) g.expr_depth room ws a mid
+    → Spelled (λ d ws. g.expr_words d (word.Semicolon ∷ ws)) (λ d. make (trees.expr_tree d)) trees.expr_depth room ws a mid
 some_ended_ok room sound make ws mid a e =
     let b = bind_ok (r.ended (inside_of room) ws) _ (Some a, mid) e in
     let v = ended_ok room sound ws b.0 b.1 in
@@ -221,7 +238,7 @@ some_ended_ok room sound make ws mid a e =
     record { way = v.way; words_are = cc (v.words_are, u); tree_is = ap make v.tree_is ∙ k; deep = v.deep }
 
 pub next_stmt_ok : (room : ℕ) → Within SoundInner room → (ws mid : List Word) (a : Stmt) → r.next_stmt (inside_of room) ws ≡ Ok (Some a, mid)
-    → Spelled g.stmt_words g.stmt_tree g.stmt_depth room ws a mid
+    → Spelled g.stmt_words trees.stmt_tree trees.stmt_depth room ws a mid
 next_stmt_ok room within (word.Name n ∷ ws) mid a e = assignment_ok room (expr_ok room within) n ws (a, mid) (some_stmt_ok (r.assignment (inside_of room) n) ws mid a e)
 next_stmt_ok room within (word.Let ∷ ws) mid a e = let_ok room (expr_ok room within) ws (a, mid) (some_stmt_ok (r.let_stmt (inside_of room)) ws mid a e)
 next_stmt_ok room within (word.If ∷ ws) mid a e = if_ok room within ws (a, mid) (some_stmt_ok (r.if_stmt (inside_of room)) ws mid a e)
@@ -262,13 +279,17 @@ next_stmt_stays room [] x e none = second_is (None, []) x e
 next_stmt_stays room (w ∷ ws) x e none = second_is (None, w ∷ ws) x e
 
 pub next_stmts_ok : (room : ℕ) → Within SoundInner room → (found : List Stmt) (ws rest : List Word) → Turns (r.next_stmt (inside_of room)) found ws rest
-    → Spelled g.stmts_words g.stmts_tree g.stmts_depth room ws found rest
+    → Spelled g.stmts_words trees.stmts_tree trees.stmts_depth room ws found rest
 next_stmts_ok room within [] ws rest t = record { way = g.no_stmt; words_are = sym t; tree_is = refl; deep = omega arith }
 next_stmts_ok room within (a ∷ found) ws rest t =
     let v = next_stmt_ok room within ws t.0 a t.1 in
     let s = next_stmts_ok room within found t.0 rest t.2 in
-    record { way = g.next_stmt v.way s.way; words_are = ap (λ h. g.stmt_words v.way h) s.words_are ∙ v.words_are;
-        tree_is = ap (λ h. h ∷ g.stmts_tree s.way) v.tree_is ∙ ap (λ h. a ∷ h) s.tree_is; deep = omega (arith, v.deep, s.deep) }
+    record {
+      way = g.next_stmt v.way s.way;
+      words_are = ap (λ h. g.stmt_words v.way h) s.words_are ∙ v.words_are;
+      tree_is = ap (λ h. h ∷ trees.stmts_tree s.way) v.tree_is ∙ ap (λ h. a ∷ h) s.tree_is;
+      deep = omega (arith, v.deep, s.deep);
+    }
 
 pub stmts_ok : (room : ℕ) → Within SoundInner room → SoundStmts room
 stmts_ok room within ws x e =

@@ -4,9 +4,10 @@ use Rattle.nb_lexer.specs.declared.word.Word.{Word}
 use Rattle.nb_lexer.specs.declared.word.Word.TheVariants as word
 use Rattle.nb_grammar.specs.declared.fault.Fault.{Fault}
 use Rattle.nb_grammar.specs.Reading as r
-use Rattle.nb_grammar.specs.Reading.{Read, ◌>>=◌, many, rounds, onward, inside_of, Inner}
+use Rattle.nb_grammar.specs.Reading.{Read, ◌>>=◌, many, rounds, onward}
 use Rattle.nb_grammar.specs.Grammar as g
-use Rattle.nb_grammar.specs.Grammar.{ExprWay, OrWay, OrParts, AndWay, AndParts, CompareWay, SumWay, Summands, ProductWay, Factors, UnaryWay, PostfixWay, Steps, PrimaryWay, Items, Pairs, PairWay, KeyWay, BlockWay, Stmts, StmtWay, ElseIfs, ElseWay, BodyWay, CellWay, CompareSign, SumSign, ProductSign}
+use Rattle.nb_grammar.specs.Trees as trees
+use Rattle.nb_grammar.specs.Grammar.{KeyWay}
 
 -- The words are these of some way to spell the value, and then the rest.
 pub record Spelled {D T : Type 0} (words : D → List Word → List Word) (tree : D → T) (depth : D → ℕ) (room : ℕ) (ws : List Word) (value : T) (rest : List Word) : Type 0 where
@@ -14,6 +15,11 @@ pub record Spelled {D T : Type 0} (words : D → List Word → List Word) (tree 
   pub words_are : words way rest ≡ ws
   pub tree_is : tree way ≡ value
   pub deep : depth way ≤ room
+
+-- The same with equal words and an equal value.
+pub respelled : {D T : Type 0} (words : D → List Word → List Word) (tree : D → T) (depth : D → ℕ) (room : ℕ) (ws more : List Word) (value other : T) (rest : List Word)
+    → Spelled words tree depth room ws value rest → ws ≡ more → value ≡ other → Spelled words tree depth room more other rest
+respelled words tree depth room ws more value other rest s a b = record { way = s.way; words_are = s.words_are ∙ a; tree_is = s.tree_is ∙ b; deep = s.deep }
 
 pub bind_ok : {A B : Type 0} (m : Result A Fault) (f : A → Result B Fault) (y : B) → (m >>= f) ≡ Ok y → (x : A) × (m ≡ Ok x) × (f x ≡ Ok y)
 bind_ok (Ok x) f y e = (x, refl, e)
@@ -56,6 +62,7 @@ many_ok {A} next stays (suc n) done ws x e = go (λ more mid. many_ok next stays
     turn again (Some a) mid is f =
         let t = again (done ++ a ∷ []) mid f in
         (a ∷ t.0, t.1 ∙ append_assoc done (a ∷ []) t.0, (mid, is, t.2))
+
     go : ((more : List A) (mid : List Word) → many next n more mid ≡ Ok x → Found next x more mid)
         → (y : Option A × List Word) × (next ws ≡ Ok y) × (onward y.0 (Ok (done, y.1)) (λ a. many next n (done ++ a ∷ []) y.1) ≡ Ok x)
         → Found next x done ws
@@ -119,7 +126,7 @@ name_ok (_ ∷ ws) x e = cc
 pub record Keyed (ws : List Word) (x : List ℕ × List Word) : Type 0 where
   pub way : KeyWay
   pub words_are : g.key_word way ∷ x.1 ≡ ws
-  pub text_is : g.key_text way ≡ x.0
+  pub text_is : trees.key_text way ≡ x.0
 
 pub key_ok : (ws : List Word) (x : List ℕ × List Word) → r.key ws ≡ Ok x → Keyed ws x
 key_ok (word.Name n ∷ ws) x e = let b = second_is (n, ws) x e in record { way = g.name_key n; words_are = cc; text_is = first_is (n, ws) x e }

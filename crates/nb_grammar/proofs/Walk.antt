@@ -4,9 +4,9 @@ use Rattle.nb_lexer.specs.declared.word.Word.{Word}
 use Rattle.nb_grammar.specs.declared.fault.Fault.{Fault}
 use Rattle.nb_grammar.specs.declared.fault.Fault.TheVariants.{Unexpected, Ended, TooDeep}
 use Rattle.nb_grammar.specs.Law as law
-use Rattle.nb_grammar.specs.Law.{Spells, Comes, Continues, Splits, HasRoom, IsFault, IsRead, left_after, Turn, turn, counted, onto}
+use Rattle.nb_grammar.specs.Law.{Splits, left_after, Turn, turn, counted, onto}
 use Rattle.nb_grammar.specs.Machine as m
-use Rattle.nb_grammar.specs.Machine.{Sym, Level, run, want, arguments, more_steps, more_factors, more_summands, more_compare, more_and, more_or, more_choice, first_item, more_items, first_pair, more_pairs, need_name, need_key, need_let, need_of, need_open_round, need_close_round, need_comma, need_colon, need_semicolon, need_assign, need_close_square, more_stmts, more_else, after_else, body_brace, brace_name, cell_name, tails, more_arguments, feed}
+use Rattle.nb_grammar.specs.Machine.{Sym, run, feed}
 
 -- the machine over the first words
 abbrev pub walk : List Word → ℕ → List Sym → Option (ℕ × List Sym)
@@ -112,10 +112,10 @@ run_stuck (w ∷ ws) room ss f e = each (λ left new h. run_stuck ws left new f 
         → onto o (Some (Unexpected (length (w ∷ ws)))) (λ new. onto c (Some (TooDeep (suc (length ws)))) (λ left. run ws left new)) ≡ Some f → Stuck room ss (w ∷ ws) f
     each again None c is at e =
         subst (λ g. Stuck room ss (w ∷ ws) g) (some_is (Unexpected (length (w ∷ ws))) f e)
-            ([], w, (room, ss), record { after = ws; words = refl; left = refl }, refl, is)
+        ([], w, (room, ss), record { after = ws; words = refl; left = refl }, refl, is)
     each again (Some new) None is at e =
         subst (λ g. Stuck room ss (w ∷ ws) g) (some_is (TooDeep (suc (length ws))) f e)
-            ([], w, (room, ss), new, record { after = ws; words = refl; left = refl }, refl, is, at)
+        ([], w, (room, ss), new, record { after = ws; words = refl; left = refl }, refl, is, at)
     each again (Some new) (Some left) is at e = stuck_next w ws room left ss new f is at (again left new e)
 
 pub run_refused : (w : Word) (ws : List Word) (room : ℕ) (ss : List Sym) → feed ss w ≡ None → run (w ∷ ws) room ss ≡ Some (Unexpected (length (w ∷ ws)))

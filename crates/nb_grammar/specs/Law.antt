@@ -7,7 +7,8 @@ use Rattle.nb_grammar.specs.declared.fault.Fault.{Fault}
 use Rattle.nb_grammar.specs.declared.fault.Fault.TheVariants.{Unexpected, Ended, TooDeep}
 use Rattle.nb_grammar.specs.declared.fault.Stop.{Stop}
 use Rattle.nb_grammar.specs.declared.fault.Stop.TheVariants as stops
-use Rattle.nb_grammar.specs.Grammar.{CellWay, cell_words, cell_tree, cell_depth}
+use Rattle.nb_grammar.specs.Grammar.{CellWay, cell_words}
+use Rattle.nb_grammar.specs.Trees.{cell_tree, cell_depth}
 
 -- The words spell this cell, with at most so many brackets open at any place.
 pub record Spells (room : ℕ) (ws : List Word) (c : Cell) : Type 0 where

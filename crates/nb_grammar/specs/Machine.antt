@@ -223,4 +223,4 @@ abbrev pub run : List Word → ℕ → List Sym → Option Fault
 run [] room ss = if done ss then None else Some Ended
 run (w ∷ ws) room ss =
     onto (feed ss w) (Some (Unexpected (length (w ∷ ws))))
-        (λ new. onto (counted (turn w) room) (Some (TooDeep (suc (length ws)))) (λ left. run ws left new))
+    (λ new. onto (counted (turn w) room) (Some (TooDeep (suc (length ws)))) (λ left. run ws left new))

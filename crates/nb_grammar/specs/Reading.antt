@@ -23,6 +23,7 @@ use Rattle.nb_grammar.specs.declared.fault.Fault.{Fault}
 use Rattle.nb_grammar.specs.declared.fault.Fault.TheVariants.{Unexpected, Ended, TooDeep}
 use Rattle.nb_grammar.specs.declared.fault.Stop.{Stop}
 use Rattle.nb_grammar.specs.declared.fault.Stop.TheVariants as stops
+pub use Rattle.nb_grammar.specs.Trees.{path_of, product_of, sum_of, and_of, or_of}
 use Rattle.nb_grammar.specs.Words.{product_sign, sum_sign, compare_sign, called}
 
 abbrev pub Read : Type 0 → Type 0
@@ -211,27 +212,6 @@ step inside (word.Dot ∷ ws) = name ws >>= (λ x. Ok (Some (path.Field x.0), x.
 step inside (word.OpenSquare ∷ ws) =
     opened inside ws (λ inner. inner.expr ws >>= (λ e. close_square e.1 >>= (λ rest. Ok (Some (path.At e.0), rest))))
 step inside ws = Ok (None, ws)
-
--- What stands alone leaves no node.
-abbrev pub path_of : Expr → List PathStep → Expr
-path_of e [] = e
-path_of e (s ∷ ss) = tree.Path e (s ∷ ss)
-
-abbrev pub product_of : Expr → List Operand → Expr
-product_of e [] = e
-product_of e (o ∷ os) = tree.Product e (o ∷ os)
-
-abbrev pub sum_of : Expr → List Operand → Expr
-sum_of e [] = e
-sum_of e (o ∷ os) = tree.Sum e (o ∷ os)
-
-abbrev pub and_of : Expr → List Expr → Expr
-and_of e [] = e
-and_of e (d ∷ ds) = tree.And (e ∷ d ∷ ds)
-
-abbrev pub or_of : Expr → List Expr → Expr
-or_of e [] = e
-or_of e (d ∷ ds) = tree.Or (e ∷ d ∷ ds)
 
 -- postfix := primary { "." name | "[" expr "]" }
 abbrev pub postfix : Inside → List Word → Read Expr

@@ -1,7 +1,4 @@
-ghost use Rattle.std.specs.Prelude.{◌≡◌};
-ghost use Rattle.nb_grammar.specs.declared.fault.Stop.TheVariants.{Memory};
-
-use std::alloc::{AllocError, AllocFailed};
+use std::alloc::AllocError;
 
 /// The first fault of a list of words.
 #[derive(Clone, Copy, Debug, PartialEq, Eq)]
@@ -22,9 +19,12 @@ pub enum Stop {
 }
 
 impl From<AllocError> for Stop {
+    ghost use Rattle.std.specs.Prelude.{◌≡◌};
+    ghost use Rattle.nb_grammar.specs.declared.fault.Stop.TheVariants.{Memory};
+
     ghost from_gives = { λ _ e. e ≡ Memory };
 
-    fn from(_e: AllocError) -> Stop {
+    fn from(_refused: AllocError) -> Stop {
         Stop::Memory
     }
 }

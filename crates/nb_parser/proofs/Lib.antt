@@ -2,3 +2,4 @@ pub mod Scanned
 pub mod CellLaws
 pub mod Places
 pub mod Total
+pub mod Turns

@@ -5,7 +5,10 @@ ghost use Rattle.nb_grammar.specs.Words.{called};
 ghost use Rattle.nb_grammar.specs.Reading.{Gives, inside_of, expr, choice, or, and, compare, sum, product, unary, postfix, step, primary, named, call, bracketed, items, pairs, pair, name, key};
 
 use crate::functions::function_of;
-use crate::marks::{close_curly, close_round, close_square, colon, comma, enter, fault_at, key, name};
+use crate::marks::{
+    after_and, after_comma, after_or, close_curly, close_round, close_square, colon, comma, enter,
+    fault_at, key, name,
+};
 use crate::nodes::{
     and_of, choose_of, compare_of, fetch_of, or_of, path_of, product_of, sum_of, unary_of,
 };
@@ -47,14 +50,12 @@ fn or(alloc: Global, words: &[Word], room: u8) -> Result<(Expr, &[Word]), Stop>
 {
     let (first, mut rest) = and(alloc, words, room)?;
     let mut more = Items::new(alloc);
-    'parts: loop {
-        let [Word::Or, behind @ ..] = rest else {
-            return Ok((or_of(alloc, first, more)?, rest));
-        };
+    'parts: while let Some(behind) = after_or(rest) {
         let (part, behind) = and(alloc, behind, room)?;
         more.push(part)?;
         rest = behind;
     }
+    Ok((or_of(alloc, first, more)?, rest))
 }
 
 #[cycle(expressions)]
@@ -64,14 +65,12 @@ fn and(alloc: Global, words: &[Word], room: u8) -> Result<(Expr, &[Word]), Stop>
 {
     let (first, mut rest) = comparison(alloc, words, room)?;
     let mut more = Items::new(alloc);
-    'parts: loop {
-        let [Word::And, behind @ ..] = rest else {
-            return Ok((and_of(alloc, first, more)?, rest));
-        };
+    'parts: while let Some(behind) = after_and(rest) {
         let (part, behind) = comparison(alloc, behind, room)?;
         more.push(part)?;
         rest = behind;
     }
+    Ok((and_of(alloc, first, more)?, rest))
 }
 
 #[cycle(expressions)]
@@ -94,14 +93,12 @@ fn sum(alloc: Global, words: &[Word], room: u8) -> Result<(Expr, &[Word]), Stop>
 {
     let (first, mut rest) = product(alloc, words, room)?;
     let mut more = Items::new(alloc);
-    'operands: loop {
-        let Some((sign, behind)) = sum_sign(rest) else {
-            return Ok((sum_of(alloc, first, more)?, rest));
-        };
+    'operands: while let Some((sign, behind)) = sum_sign(rest) {
         let (expr, behind) = product(alloc, behind, room)?;
         more.push(Operand { sign, expr })?;
         rest = behind;
     }
+    Ok((sum_of(alloc, first, more)?, rest))
 }
 
 #[cycle(expressions)]
@@ -111,14 +108,12 @@ fn product(alloc: Global, words: &[Word], room: u8) -> Result<(Expr, &[Word]), S
 {
     let (first, mut rest) = unary(alloc, words, room)?;
     let mut more = Items::new(alloc);
-    'operands: loop {
-        let Some((sign, behind)) = product_sign(rest) else {
-            return Ok((product_of(alloc, first, more)?, rest));
-        };
+    'operands: while let Some((sign, behind)) = product_sign(rest) {
         let (expr, behind) = unary(alloc, behind, room)?;
         more.push(Operand { sign, expr })?;
         rest = behind;
     }
+    Ok((product_of(alloc, first, more)?, rest))
 }
 
 #[cycle(expressions)]
@@ -265,14 +260,12 @@ fn items(alloc: Global, words: &[Word], room: u8) -> Result<(Expr, &[Word]), Sto
     }
     let (first, mut rest) = expr(alloc, words, room)?;
     items.push(first)?;
-    'items: loop {
-        let [Word::Comma, behind @ ..] = rest else {
-            return Ok((Expr::List(items), close_square(rest)?));
-        };
+    'more: while let Some(behind) = after_comma(rest) {
         let (item, behind) = expr(alloc, behind, room)?;
         items.push(item)?;
         rest = behind;
     }
+    Ok((Expr::List(items), close_square(rest)?))
 }
 
 /// The pairs of a record, behind its opening bracket.
@@ -287,14 +280,12 @@ fn pairs(alloc: Global, words: &[Word], room: u8) -> Result<(Expr, &[Word]), Sto
     }
     let (first, mut rest) = pair(alloc, words, room)?;
     pairs.push(first)?;
-    'pairs: loop {
-        let [Word::Comma, behind @ ..] = rest else {
-            return Ok((Expr::Rec(pairs), close_curly(rest)?));
-        };
+    'more: while let Some(behind) = after_comma(rest) {
         let (next, behind) = pair(alloc, behind, room)?;
         pairs.push(next)?;
         rest = behind;
     }
+    Ok((Expr::Rec(pairs), close_curly(rest)?))
 }
 
 #[cycle(expressions)]

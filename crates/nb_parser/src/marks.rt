@@ -1,7 +1,9 @@
 //! Single words: what has to stand next, and how many brackets may open.
 
-ghost use Rattle.std.specs.Prelude.{◌≡◌, ◌<◌, ◌≤◌, ◌+◌, suc, length, IfOk, MatchResult, Some, None};
+ghost use Rattle.std.specs.Prelude.{◌≡◌, ◌<◌, ◌≤◌, ◌+◌, suc, length, IfOk, IfSome, MatchResult, Some, None};
+ghost use Rattle.std.specs.Option.{option_map};
 ghost use Rattle.nb_grammar.specs.Reading.{Gives, close_round, close_square, close_curly, comma, colon, semicolon, assign, let_word, of_word, name, key, fault, inside_of, expr, stmts};
+ghost use Rattle.nb_parser.specs.Heads.{after_or, after_and, after_comma};
 ghost use Rattle.nb_grammar.specs.declared.fault.Stop.TheVariants as stops;
 ghost use Rattle.nb_grammar.specs.declared.fault.Fault.TheVariants as faults;
 
@@ -17,6 +19,39 @@ pub fn fault_at(words: &[Word]) -> Stop
     match words {
         [] => Stop::Fault(Fault::Ended),
         [_, ..] => Stop::Fault(Fault::Unexpected(words.len())),
+    }
+}
+
+/// The words behind the `||` at the head, if it is one.
+pub fn after_or(words: &[Word]) -> Option<&[Word]>
+    ensures value { option_map (λ x. x.now) result ≡ after_or words.now }
+    ensures shorter { IfSome result (λ x. length x.now < length words.now) }
+{
+    match words {
+        [Word::Or, rest @ ..] => Some(rest),
+        _ => None,
+    }
+}
+
+/// The words behind the `&&` at the head, if it is one.
+pub fn after_and(words: &[Word]) -> Option<&[Word]>
+    ensures value { option_map (λ x. x.now) result ≡ after_and words.now }
+    ensures shorter { IfSome result (λ x. length x.now < length words.now) }
+{
+    match words {
+        [Word::And, rest @ ..] => Some(rest),
+        _ => None,
+    }
+}
+
+/// The words behind the `,` at the head, if it is one.
+pub fn after_comma(words: &[Word]) -> Option<&[Word]>
+    ensures value { option_map (λ x. x.now) result ≡ after_comma words.now }
+    ensures shorter { IfSome result (λ x. length x.now < length words.now) }
+{
+    match words {
+        [Word::Comma, rest @ ..] => Some(rest),
+        _ => None,
     }
 }
 
