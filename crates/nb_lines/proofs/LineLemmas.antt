@@ -14,7 +14,7 @@ use Rattle.nb_log.specs.declared.event.Event.TheVariants as event
 use Rattle.std.proofs.lemmas.Option.{same_Some}
 use Rattle.serde_json.specs.Data.{Data}
 use Rattle.nb_syntax.specs.Plain.{is_plain}
-use Rattle.nb_parser.specs.Parse.{cell_of}
+use Rattle.nb_parser.specs.Text.{cell_of}
 use Rattle.nb_lines.specs.Form.{line_event, line_data, cell_text, cell_event, only_plain, text_event, data_event}
 use Rattle.nb_lines.specs.Lines.{lines, is_blank, is_within, is_passed, told, is_bad, fault_of, fault_among, script, scripts_before, Reads, AddsLine, AddsCell, AllAddCells, most_lines, longest_line}
 

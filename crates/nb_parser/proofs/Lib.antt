@@ -1,0 +1,5 @@
+pub mod Scanned
+pub mod CellLaws
+pub mod Places
+pub mod Total
+pub mod Turns
