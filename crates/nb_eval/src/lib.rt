@@ -1,6 +1,8 @@
 //! The evaluation of cells.
 #![tactic(auto)]
 
+#[cfg(test)]
+mod build;
 mod call;
 mod copy;
 mod done;
@@ -17,6 +19,8 @@ mod state;
 mod steps;
 mod stmt;
 mod stop;
+#[cfg(test)]
+mod tests;
 mod work;
 
 pub use done::is_work_of;
