@@ -1,3 +1,4 @@
+mod Laws
 mod Turns
 mod Lasts
 mod Calls
