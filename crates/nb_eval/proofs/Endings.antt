@@ -18,6 +18,7 @@ use Rattle.nb_eval.specs.declared.stop.Stop.{Stop}
 use Rattle.nb_eval.specs.declared.stop.Stop.TheVariants as stops
 use Rattle.nb_eval.specs.Run.{Run, Out, error, after, budget, start_state}
 use Rattle.nb_eval.specs.Evaluation.{Did, Acts, loop, run, within_size, ending_of, last_of, segment_of, evaluation, segment_end}
+pub use Rattle.nb_eval.specs.Laws.{EndsWell}
 use Rattle.nb_eval.proofs.Closed.{Closed, Claim, both_turns, both_body}
 
 -- a value, an error or a return
@@ -79,10 +80,6 @@ module _ (g : Segment) where
 
   pub plain_run : is_plain g.cell ≡ true → IsQuiet Value start_state (run g) (run g)
   plain_run h = both_body true g g IsQuiet IsQuiet closed loop_too g.cell.body (λ p. h) start_state
-
--- with a value, or with an error
-abbrev pub EndsWell : Ending → Type 0
-EndsWell e = ((v : Value) × (e ≡ ending.Done v)) ⊎ ((f : CellError) × (e ≡ ending.Failed f))
 
 well_if : (b : Bool) (x y : Ending) → EndsWell x → EndsWell y → EndsWell (if b then x else y)
 well_if true x y hx hy = hx

@@ -1,6 +1,10 @@
+mod Laws
 mod Turns
 mod Lasts
 mod Calls
-mod Closed
+pub mod Closed
 mod Few
 pub mod Endings
+pub mod Spending
+pub mod MoreAnswers
+pub mod MorePulls

@@ -2,4 +2,5 @@ pub mod Locals
 pub mod Run
 pub mod Operate
 pub mod Evaluation
+pub mod Laws
 pub mod Work

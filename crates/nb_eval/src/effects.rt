@@ -12,9 +12,13 @@ use std::alloc::Global;
 
 /// The largest size of a value that is shown.
 pub const MAX_SHOWN: u64 = 16_384;
+
 const MAX_KEY: usize = 1_023;
+
 const MAX_FETCHES: u64 = 64;
+
 const MAX_CLEANUP: u64 = 1_024;
+
 const MAX_CLEANUPS: usize = 16;
 
 /// What an answer gives, in time linear in it.

@@ -20,12 +20,7 @@ use std::alloc::Global;
 
 /// The value of an expression.
 #[cycle(eval)]
-pub fn eval_expr(
-    e: &Expr,
-    alloc: Global,
-    given: &Segment,
-    state: &mut State,
-) -> Result<Value, Stop>
+pub fn eval_expr(e: &Expr, alloc: Global, given: &Segment, state: &mut State) -> Result<Value, Stop>
     requires { HasRoom given.now state.old }
     ensures gives { Meets result state.new (eval given.now e.now state.old) }
     ensures spends { OnOk result (Spends given.now state.old state.new) }
@@ -65,7 +60,11 @@ pub fn eval_expr(
         Expr::Or(parts) => eval_or(parts, alloc, given, state),
         Expr::Choose(test, yes, no) => {
             let test = eval_expr(test.get(), alloc, given, state)?;
-            let chosen = if as_truth(alloc, &test, "?")? { yes.get() } else { no.get() };
+            let chosen = if as_truth(alloc, &test, "?")? {
+                yes.get()
+            } else {
+                no.get()
+            };
             let value = eval_expr(chosen, alloc, given, state)?;
             charged(alloc, given, state, value)
         }
@@ -306,12 +305,7 @@ fn eval_or(
 }
 
 // A copy of a quoted text.
-fn quoted(
-    alloc: Global,
-    given: &Segment,
-    state: &mut State,
-    text: &Text,
-) -> Result<Value, Stop>
+fn quoted(alloc: Global, given: &Segment, state: &mut State, text: &Text) -> Result<Value, Stop>
     requires { HasRoom given.now state.old }
     ensures gives { Meets result state.new (quoted text.now state.old) }
     ensures spends { OnOk result (Spends given.now state.old state.new) }
@@ -321,12 +315,7 @@ fn quoted(
 }
 
 // A copy of the value of a name.
-fn named(
-    alloc: Global,
-    given: &Segment,
-    state: &mut State,
-    name: &Text,
-) -> Result<Value, Stop>
+fn named(alloc: Global, given: &Segment, state: &mut State, name: &Text) -> Result<Value, Stop>
     requires { HasRoom given.now state.old }
     ensures gives { Meets result state.new (name_value_of given.now name.now state.old) }
     ensures spends { OnOk result (Spends given.now state.old state.new) }

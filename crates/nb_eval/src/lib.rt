@@ -1,6 +1,8 @@
 //! The evaluation of cells.
 #![tactic(auto)]
 
+#[cfg(test)]
+mod build;
 mod call;
 mod copy;
 mod done;
@@ -8,6 +10,7 @@ mod effects;
 mod expr;
 mod finished;
 mod given;
+mod law;
 mod locals;
 mod operate;
 mod path;
@@ -17,10 +20,13 @@ mod state;
 mod steps;
 mod stmt;
 mod stop;
+#[cfg(test)]
+mod tests;
 mod work;
 
 pub use done::is_work_of;
 pub use finished::Finished;
 pub use given::{Ending, RunEnd, Segment};
+pub use law::{law_of_answers, law_of_loops, law_of_plain_cells, law_of_pulls};
 pub use replay::evaluate;
 pub use work::{Work, WorkDone};

@@ -170,7 +170,13 @@ pub fn product_step(
 }
 
 // Whether an order holds, of two numbers or two texts.
-fn ordered(alloc: Global, sign: Sign, holds: bool, left: &Value, right: &Value) -> Result<Value, Stop>
+fn ordered(
+    alloc: Global,
+    sign: Sign,
+    holds: bool,
+    left: &Value,
+    right: &Value,
+) -> Result<Value, Stop>
     ensures { Gives result (ordered sign holds left.now right.now) }
 {
     match (left, right) {

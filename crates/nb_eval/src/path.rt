@@ -54,9 +54,7 @@ pub fn part_of(alloc: Global, value: &Value, index: &Value) -> Result<Value, Sto
 {
     match (value, index) {
         (Value::List(items), Value::Int(index)) => item_or(alloc, item_at(items, *index)),
-        (Value::Rec(fields), Value::Text(name)) => {
-            found(alloc, name, fields.get(name.as_str()))
-        }
+        (Value::Rec(fields), Value::Text(name)) => { found(alloc, name, fields.get(name.as_str())) }
         _ => Err(failure(alloc, ErrorKind::WrongKind, "[")),
     }
 }

@@ -57,12 +57,7 @@ fn made_of(yields: &Items<Value>, pulls: u32) -> u32
     yields.len() as u32
 }
 
-fn eval_body(
-    body: &Body,
-    alloc: Global,
-    given: &Segment,
-    state: &mut State,
-) -> Result<Value, Stop>
+fn eval_body(body: &Body, alloc: Global, given: &Segment, state: &mut State) -> Result<Value, Stop>
     requires { HasRoom given.now state.old }
     ensures { Meets result state.new (eval_body given.now body.now state.old) }
 {

@@ -17,12 +17,7 @@ use nb_value::{Items, Text, Value};
 use std::alloc::Global;
 
 #[cycle(exec)]
-fn exec_stmt(
-    stmt: &Stmt,
-    alloc: Global,
-    given: &Segment,
-    state: &mut State,
-) -> Result<(), Stop>
+fn exec_stmt(stmt: &Stmt, alloc: Global, given: &Segment, state: &mut State) -> Result<(), Stop>
     requires { HasRoom given.now state.old }
     ensures gives { Meets result state.new (act given.now stmt.now state.old) }
     ensures spends { OnOk result (Spends given.now state.old state.new) }
