@@ -2,9 +2,18 @@
 #![tactic(auto)]
 
 mod cell;
+mod error;
 mod expressions;
 mod functions;
+mod laws;
 mod marks;
 mod nodes;
 mod operators;
+mod parse;
 mod statements;
+#[cfg(test)]
+mod tests;
+
+pub use error::ParseError;
+pub use laws::law_of_cells;
+pub use parse::parse_cell;
