@@ -16,55 +16,8 @@ use Rattle.nb_grammar.specs.Words.{compare_sign, sum_sign, product_sign}
 use Rattle.nb_grammar.specs.Reading.{Read, ◌>>=◌, many, rounds, onward, Inside, inside_of, or_part, and_part, product, unary, step, item, next_pair, expr, operand, signed, and, sum, compare, compared, pair, compare_at, arguments, comma, items, close_square, pairs, close_curly, Fails, Gives}
 use Rattle.std.specs.Option.{option_map}
 use Rattle.std.specs.Result.{IsErrAnd}
+use Rattle.nb_grammar.proofs.Loops.{Falls, rounds_go}
 use Rattle.nb_parser.specs.Heads.{sign_at, after_or, after_and, after_comma}
-
-abbrev pub Falls : {A : Type 0} → (List Word → Read (Option A)) → Type 0
-Falls {A} next = (ws mid : List Word) (a : A) → next ws ≡ Ok (Some a, mid) → length mid < length ws
-
-pub or_falls : (room : ℕ) → Falls (or_part (inside_of room))
-or_falls room = ?
-pub and_falls : (room : ℕ) → Falls (and_part (inside_of room))
-and_falls room = ?
-pub summand_falls : (room : ℕ) → Falls (operand sum_sign (product (inside_of room)))
-summand_falls room = ?
-pub factor_falls : (room : ℕ) → Falls (operand product_sign (unary (inside_of room)))
-factor_falls room = ?
-pub step_falls : (room : ℕ) → Falls (step (inside_of room))
-step_falls room = ?
-pub item_falls : (room : ℕ) → Falls (item (expr (inside_of room)))
-item_falls room = ?
-pub pair_falls : (room : ℕ) → Falls (next_pair (expr (inside_of room)))
-pair_falls room = ?
-
--- ---- the bound on the turns
-
-pub enough : {A : Type 0} (next : List Word → Read (Option A)) → Falls next → (n m : ℕ) (done : List A) (ws : List Word)
-    → length ws < n → length ws < m → many next n done ws ≡ many next m done ws
-enough next f zero m done ws h k = absurd (omega arith)
-enough next f (suc n) zero done ws h k = absurd (omega arith)
-enough {A} next f (suc n) (suc m) done ws h k =
-    turn (λ more mid g. let a : length mid < n = omega arith in let b : length mid < m = omega arith in enough next f n m more mid a b) (next ws) refl
-  where
-    turn : ((more : List A) (mid : List Word) → length mid < length ws → many next n more mid ≡ many next m more mid)
-        → (y : Read (Option A)) → next ws ≡ y
-        → (y >>= (λ x. onward x.0 (Ok (done, x.1)) (λ b. many next n (done ++ b ∷ []) x.1)))
-        ≡ (y >>= (λ x. onward x.0 (Ok (done, x.1)) (λ b. many next m (done ++ b ∷ []) x.1)))
-    turn again (Err e) is = refl
-    turn again (Ok x) is = again_at x.0 x.1 is
-      where
-        again_at : (o : Option A) (mid : List Word) → next ws ≡ Ok (o, mid)
-            → onward o (Ok (done, mid)) (λ b. many next n (done ++ b ∷ []) mid) ≡ onward o (Ok (done, mid)) (λ b. many next m (done ++ b ∷ []) mid)
-        again_at None mid e = refl
-        again_at (Some a) mid e = again (done ++ a ∷ []) mid (f ws mid a e)
-
--- one turn, and then the loop again
-pub rounds_go : {A : Type 0} (next : List Word → Read (Option A)) → Falls next → (done : List A) (ws mid : List Word) (a : A)
-    → next ws ≡ Ok (Some a, mid) → rounds next (done ++ a ∷ []) mid ≡ rounds next done ws
-rounds_go {A} next f done ws mid a e =
-    let b : length mid < length ws = f ws mid a e in
-    let c : length mid < suc (length mid) = omega arith in
-    enough next f (suc (length mid)) (length ws) (done ++ a ∷ []) mid c b
-    ∙ sym (ap (λ (y : Read (Option A)). y >>= (λ x. onward x.0 (Ok (done, x.1)) (λ v. many next (length ws) (done ++ v ∷ []) x.1))) e)
 
 -- What is left of a loop and of what follows it, from these words on, is the whole.
 pub record Left {A B : Type 0} (next : List Word → Read (Option A)) (k : List A × List Word → Result B Fault) (done : List A) (ws : List Word)

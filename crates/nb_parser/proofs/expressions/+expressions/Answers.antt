@@ -3,12 +3,13 @@ use Rattle.std.proofs.Common.{◌≡◌, ◌∙◌, ap, sym, refl, ◌<◌, ℕ,
 use Rattle.nb_syntax.specs.declared.tree.Expr.TheVariants as tree
 use Rattle.nb_grammar.specs.Words.{sum_sign, product_sign}
 use Rattle.nb_grammar.specs.Reading.{◌>>=◌, product, unary, sum, expr, inside_of, compare_at, or_part, or_of, and_part, and_of, operand, sum_of, product_of, item, next_pair, close_square, close_curly}
-use Rattle.nb_parser.proofs.Turns.{turn, stop, bind_ok, bind_err, fails, or_falls, and_falls, summand_falls, factor_falls, step_falls, item_falls, pair_falls, or_at, and_at, item_at, pair_at, operand_at, compared_at, items_begin, pairs_begin, argument_turn, argument_comma, argument_stop}
+use Rattle.nb_grammar.proofs.Loops.{or_part_falls, and_part_falls, summand_falls, factor_falls, step_falls, item_falls, pair_falls}
+use Rattle.nb_parser.proofs.Turns.{turn, stop, bind_ok, bind_err, fails, or_at, and_at, item_at, pair_at, operand_at, compared_at, items_begin, pairs_begin, argument_turn, argument_comma, argument_stop}
 use Rattle.nb_parser.proofs.expressions.+expressions.Goals as goal
 
 pub or-parts-preserved : goal.or-parts-preserved
 or-parts-preserved t c = record {
-    left = turn _ (or_falls c.args.room) _ c.parts.more _ c.parts.rest.now c.in_ok-part.behind.now _ _ _
+    left = turn _ (or_part_falls c.args.room) _ c.parts.more _ c.parts.rest.now c.in_ok-part.behind.now _ _ _
         (or_at (inside_of c.args.room) c.parts.rest.now c.in-Some.behind.now c.in-Some.ensures.value ∙ bind_ok _ _ _ c.in_ok-part.ensures.gives) refl c.in_ok-push.ensures.ok c.parts.invariant.left;
     within = omega (arith, c.in_ok-part.ensures.shorter, c.in-Some.ensures.shorter, c.parts.invariant.within) }
 
@@ -18,7 +19,7 @@ or-returns-in_err-part-clause-gives t c = fails _ _ _ _ _ c.from_residual-in_err
 
 pub and-parts-preserved : goal.and-parts-preserved
 and-parts-preserved t c = record {
-    left = turn _ (and_falls c.args.room) _ c.parts.more _ c.parts.rest.now c.in_ok-part.behind.now _ _ _
+    left = turn _ (and_part_falls c.args.room) _ c.parts.more _ c.parts.rest.now c.in_ok-part.behind.now _ _ _
         (and_at (inside_of c.args.room) c.parts.rest.now c.in-Some.behind.now c.in-Some.ensures.value ∙ bind_ok _ _ _ c.in_ok-part.ensures.gives) refl c.in_ok-push.ensures.ok c.parts.invariant.left;
     within = omega (arith, c.in_ok-part.ensures.shorter, c.in-Some.ensures.shorter, c.parts.invariant.within) }
 
