@@ -8,7 +8,7 @@ use Rattle.nb_syntax.specs.declared.tree.Cell.{Cell}
 use Rattle.nb_grammar.specs.declared.fault.Fault.{Fault}
 use Rattle.nb_grammar.specs.Reading.{whole}
 use Rattle.nb_grammar.specs.Law.{Spells, IsFault, IsRead}
-use Rattle.nb_grammar.proofs.Laws as grammar
+use Rattle.nb_parser.proofs.GrammarLaws as grammar
 use Rattle.nb_parser.specs.declared.error.ParseError.{ParseError}
 use Rattle.nb_parser.specs.declared.error.ParseError.TheVariants.{Lex, Unexpected, Ended, TooDeep, Memory}
 use Rattle.nb_parser.specs.Text.{words_of, if_read, if_words, cell_of}

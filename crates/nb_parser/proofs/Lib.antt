@@ -1,3 +1,4 @@
+pub mod GrammarLaws
 pub mod Scanned
 pub mod CellLaws
 pub mod Places

@@ -14,7 +14,7 @@ use Rattle.nb_grammar.specs.declared.fault.Fault.TheVariants as fault
 use Rattle.nb_grammar.specs.declared.fault.Stop.{Stop}
 use Rattle.nb_grammar.specs.declared.fault.Stop.TheVariants as stops
 use Rattle.nb_grammar.specs.Law.{Splits, IsFault, Comes}
-use Rattle.nb_grammar.proofs.Laws as grammar
+use Rattle.nb_parser.proofs.GrammarLaws as grammar
 use Rattle.nb_parser.specs.declared.error.ParseError.{ParseError}
 use Rattle.nb_parser.specs.declared.error.ParseError.TheVariants.{Lex, Unexpected, Ended, TooDeep, Memory}
 use Rattle.nb_parser.specs.Parse.{Parses, IsLeft, token_text, Places, IsWordFault, IsRefused, Refuses, UnlessMemory}

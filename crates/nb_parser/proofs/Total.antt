@@ -14,7 +14,7 @@ use Rattle.nb_grammar.specs.declared.fault.Fault.{Fault}
 use Rattle.nb_grammar.specs.declared.fault.Fault.TheVariants as fault
 use Rattle.nb_grammar.specs.Reading.{whole}
 use Rattle.nb_grammar.specs.Law.{Splits, IsFault, IsRead}
-use Rattle.nb_grammar.proofs.Laws as grammar
+use Rattle.nb_parser.proofs.GrammarLaws as grammar
 use Rattle.nb_parser.specs.declared.error.ParseError.{ParseError}
 use Rattle.nb_parser.specs.declared.error.ParseError.TheVariants.{Lex, Unexpected, Ended, TooDeep}
 use Rattle.nb_parser.specs.Parse.{Parses, IsLeft, token_text, IsRefused}
