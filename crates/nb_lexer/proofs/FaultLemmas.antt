@@ -1,5 +1,5 @@
 -- What is a fault is found as that fault.
-use Rattle.std.proofs.Common.{◌≡◌, ◌≢◌, ◌≤◌, ◌<◌, ◌+◌, ◌-◌, ◌^◌, ◌&&◌, ◌||◌, ◌==◌, ◌⊎◌, inl, inr, ℕ, ℤ, pos, zero, suc, Bool, true, false, cond, not, nat_lt, nat_eq, List, [], ◌∷◌, ◌++◌, length, take, drop, Option, Some, None, Result, Ok, Err, refl, sym, ap, subst, ◌∙◌, append_assoc, length-append, arith}
+use Rattle.std.proofs.Common.{◌≡◌, ◌≢◌, ◌≤◌, ◌+◌, ◌&&◌, ◌||◌, ◌==◌, ◌⊎◌, inl, inr, ℕ, pos, Bool, true, false, cond, nat_lt, List, [], ◌∷◌, ◌++◌, length, take, drop, Option, Some, None, Ok, Err, refl, sym, ap, subst, ◌∙◌, arith}
 use Rattle.std.proofs.lemmas.Bool.{and_parts, and_from, or_cases, false≢true}
 use Rattle.std.proofs.lemmas.Bool.Decides.{nat_tests}
 use Rattle.std.proofs.lemmas.List.{take_at, take-take}
@@ -12,12 +12,11 @@ use Rattle.nb_lexer.specs.declared.word.Word.{Word}
 use Rattle.nb_lexer.specs.declared.word.Word.TheVariants as word
 use Rattle.nb_lexer.specs.declared.fault.LexError.{LexError}
 use Rattle.nb_lexer.specs.declared.fault.LexError.TheVariants.{BadCharacter, OpenText, BadEscape, TooWide, Memory}
-use Rattle.nb_lexer.specs.Characters.{is_digit, is_letter, is_in_name, is_quote, is_gap, begins}
-use Rattle.nb_lexer.specs.Words.{sign}
+use Rattle.nb_lexer.specs.Characters.{is_digit, is_letter, is_in_name, is_quote, begins}
 use Rattle.nb_lexer.specs.Spelling.{is_first_digit, is_numeral, too_wide, Escape, quote, backslash, line_feed, carriage_return, tab, letter, parts_text, parts_value}
 use Rattle.nb_lexer.specs.Faults.{IsStray, RunsOn, IsWide, IsControl, IsNoEscape, IsOpen, FaultAt}
 use Rattle.nb_lexer.specs.Scan.{Found, sign_or_stray, numeral_len, unescaped, with_front, escaped_byte, inside, quoted_word, front}
-use Rattle.nb_lexer.proofs.Runs.{begins-append, begins_too}
+use Rattle.nb_lexer.proofs.Runs.{begins-append}
 use Rattle.nb_lexer.proofs.Cases.{numeral_digit, numeral_passes, zero_is}
 use Rattle.nb_lexer.proofs.Complete.{begins_digit, begins_other, numeral_stops, checked, number_is, text_is}
 

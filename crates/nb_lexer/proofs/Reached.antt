@@ -1,16 +1,16 @@
 -- How far the tokens of a text are known.
-use Rattle.std.proofs.Common.{◌≡◌, ◌≤◌, ◌<◌, ◌+◌, ◌-◌, ℕ, Bool, true, false, List, [], ◌∷◌, ◌++◌, length, take, drop, map, refl, sym, ap, subst, ◌∙◌, append_assoc, zero-add, length-drop, arith}
+use Rattle.std.proofs.Common.{◌≡◌, ◌≤◌, ◌+◌, ◌-◌, ℕ, false, List, [], ◌∷◌, ◌++◌, length, take, drop, map, refl, sym, ap, subst, ◌∙◌, zero-add, length-drop, arith}
 use Rattle.std.proofs.lemmas.List.{take-append-drop, drop-drop, drop_all}
 use Rattle.std.proofs.lemmas.List.Folds.{length-prefix_len}
 use Rattle.std.proofs.lemmas.List.Sums.{prefix_len-le-length}
-use Rattle.std.specs.List.{prefix_len, list_all}
+use Rattle.std.specs.List.{prefix_len}
 use Rattle.std.specs.Str.{IsUtf8}
 use Rattle.nb_lexer.specs.declared.token.Token.{Token}
 use Rattle.nb_lexer.specs.declared.fault.LexError.{LexError}
 use Rattle.nb_lexer.specs.declared.fault.LexError.TheVariants.{BadCharacter, OpenText, BadEscape, TooWide, Memory}
 use Rattle.nb_lexer.specs.Characters.{is_gap, begins}
 use Rattle.nb_lexer.specs.Lexes.{Placed, word_of, token_of, Skips, Takes, Leads, AreTokens}
-use Rattle.nb_lexer.specs.Faults.{FaultAt, IsFault, Refuses}
+use Rattle.nb_lexer.specs.Faults.{Refuses}
 use Rattle.nb_lexer.specs.Scan.{Stands, FaultsAt}
 use Rattle.nb_lexer.proofs.Runs.{run_passes, run_clear, gap_ascii, utf8_behind_run}
 

@@ -1,8 +1,8 @@
 -- What is found at the front is spelled there, and what is no word there is a fault.
-use Rattle.std.proofs.Common.{◌≡◌, ◌≢◌, ◌≤◌, ◌<◌, ◌+◌, ◌-◌, ◌^◌, ◌&&◌, ◌||◌, ◌==◌, ◌⊎◌, inl, inr, ℕ, ℤ, pos, zero, suc, Bool, true, false, cond, not, nat_lt, nat_eq, List, [], ◌∷◌, ◌++◌, length, take, drop, Option, Some, None, is_none, unwrap_or, Result, Ok, Err, refl, sym, ap, subst, ◌∙◌, append_assoc, append-nil, add-zero, length-append, arith}
-use Rattle.std.proofs.lemmas.Bool.{and_parts, and_from, and_right, or_cases, false≢true}
+use Rattle.std.proofs.Common.{◌≡◌, ◌≢◌, ◌≤◌, ◌<◌, ◌+◌, ◌&&◌, ◌||◌, ◌==◌, ◌⊎◌, inl, inr, ℕ, pos, Bool, true, false, cond, nat_lt, List, [], ◌∷◌, ◌++◌, length, take, drop, Option, Some, None, is_none, unwrap_or, Ok, Err, refl, sym, ap, subst, ◌∙◌, append_assoc, add-zero, length-append, arith}
+use Rattle.std.proofs.lemmas.Bool.{and_from, and_right, false≢true}
 use Rattle.std.proofs.lemmas.Bool.Decides.{nat_tests}
-use Rattle.std.proofs.lemmas.List.{take-append-drop, drop_at}
+use Rattle.std.proofs.lemmas.List.{take-append-drop}
 use Rattle.std.proofs.lemmas.List.Folds.{list_all-append, length-prefix_len}
 use Rattle.std.specs.List.{prefix_len, list_all}
 use Rattle.std.specs.Str.{bytes_eq}
@@ -10,13 +10,12 @@ use Rattle.std.specs.Str.Parse.{digits_value}
 use Rattle.nb_lexer.specs.declared.word.Word.{Word}
 use Rattle.nb_lexer.specs.declared.word.Word.TheVariants as word
 use Rattle.nb_lexer.specs.declared.token.TokenKind.TheVariants as kind
-use Rattle.nb_lexer.specs.declared.fault.LexError.{LexError}
 use Rattle.nb_lexer.specs.declared.fault.LexError.TheVariants.{BadCharacter, OpenText, BadEscape, TooWide, Memory}
 use Rattle.nb_lexer.specs.Characters.{is_digit, is_letter, is_in_name, is_quote, is_gap, begins}
 use Rattle.nb_lexer.specs.Words.{fixed_text, keyword, sign, kind_of}
-use Rattle.nb_lexer.specs.Spelling.{is_first_digit, is_numeral, is_name, too_wide, SpellsNumber, Escape, quote, backslash, line_feed, carriage_return, tab, letter, escaped, is_plain, Part, plain, escape, part_text, part_value, parts_text, parts_value, SpellsText, Spells, goes_on, Ends}
-use Rattle.nb_lexer.specs.Faults.{IsStray, RunsOn, IsWide, IsControl, IsNoEscape, IsOpen, FaultAt}
-use Rattle.nb_lexer.specs.Scan.{Found, name_word, name_at, sign_or_stray, numeral_len, number_at, unescaped, with_front, escaped_byte, inside, quoted_word, front}
+use Rattle.nb_lexer.specs.Spelling.{is_first_digit, is_numeral, is_name, too_wide, Escape, quote, backslash, line_feed, carriage_return, tab, letter, escaped, is_plain, Part, plain, escape, part_text, part_value, parts_text, parts_value, Spells, Ends}
+use Rattle.nb_lexer.specs.Faults.{FaultAt}
+use Rattle.nb_lexer.specs.Scan.{Found, name_at, sign_or_stray, numeral_len, number_at, unescaped, with_front, escaped_byte, inside, quoted_word, front}
 use Rattle.nb_lexer.proofs.Runs.{run_passes, run_clear, run_begins, begins_never, begins_too, letter_in_name}
 use Rattle.nb_lexer.proofs.FixedLemmas.{keyword_kind, keyword_text, keyword_spells, keyword_goes_on, sign_kind, sign_text, sign_spells}
 use Rattle.nb_lexer.proofs.FaultLemmas.{or_right}

@@ -1,5 +1,5 @@
 -- The places of tokens: in order, and where the text may be cut.
-use Rattle.std.proofs.Common.{◌≡◌, ◌≤◌, ◌<◌, ◌+◌, ◌-◌, ℕ, List, [], ◌∷◌, ◌++◌, length, take, drop, map, All, refl, sym, ap, subst, ◌∙◌, length-append, length-drop, arith}
+use Rattle.std.proofs.Common.{◌≡◌, ◌≤◌, ◌+◌, ◌-◌, ℕ, List, [], ◌∷◌, ◌++◌, length, take, drop, map, All, refl, sym, ap, subst, ◌∙◌, length-append, length-drop, arith}
 use Rattle.std.proofs.lemmas.List.{take_at, drop_at, drop-drop}
 use Rattle.std.proofs.lemmas.List.Elements.{All-from_recursion}
 use Rattle.std.proofs.lemmas.Str.{IsCharBoundary-from_drop}
@@ -7,7 +7,7 @@ use Rattle.std.specs.List.{AllByRecursion, slice_range}
 use Rattle.std.specs.Str.{IsUtf8}
 use Rattle.nb_lexer.specs.declared.token.Token.{Token}
 use Rattle.nb_lexer.specs.Characters.{is_gap}
-use Rattle.nb_lexer.specs.Lexes.{Placed, token_of, Skips, Takes, Leads, Lexes, AreTokens, IsSpan, InOrder}
+use Rattle.nb_lexer.specs.Lexes.{Placed, token_of, Skips, Takes, Leads, AreTokens, IsSpan, InOrder}
 use Rattle.nb_lexer.specs.Spelling.{Spells}
 use Rattle.nb_lexer.proofs.Runs.{gap_ascii, utf8_behind_run}
 use Rattle.nb_lexer.proofs.Spelled.{spelling_some, spelling_cut}

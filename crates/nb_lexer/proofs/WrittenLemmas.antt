@@ -1,18 +1,17 @@
 -- Written words are read as these words.
-use Rattle.std.proofs.Common.{◌≡◌, ◌≢◌, ◌≤◌, ◌<◌, ◌+◌, ◌-◌, ◌^◌, ◌&&◌, ◌||◌, ◌==◌, ◌⊎◌, inl, inr, ℕ, ℤ, pos, zero, suc, Bool, true, false, cond, not, nat_lt, nat_eq, List, [], ◌∷◌, ◌++◌, length, map, get_or, refl, sym, ap, subst, ◌∙◌, append_assoc, append-nil, add-zero, zero-add, length-append, arith}
-use Rattle.std.proofs.lemmas.Bool.{and_parts, and_from, or_cases, false≢true, not-true, cases_lt}
+use Rattle.std.proofs.Common.{◌≡◌, ◌<◌, ◌+◌, ◌^◌, ◌==◌, inl, inr, ℕ, pos, Bool, true, false, cond, nat_lt, List, [], ◌∷◌, ◌++◌, length, map, get_or, refl, sym, ap, subst, ◌∙◌, append_assoc, zero-add, length-append, arith}
+use Rattle.std.proofs.lemmas.Bool.{and_parts, and_from, not-true, cases_lt}
 use Rattle.std.proofs.lemmas.Bool.Decides.{nat_tests}
 use Rattle.std.proofs.lemmas.Fmt.{decimal_is_IsNumeral, decimal_digit, first_decimal}
 use Rattle.std.specs.Fmt.{decimal}
-use Rattle.std.specs.List.{list_all, AllByRecursion}
+use Rattle.std.specs.List.{list_all}
 use Rattle.std.specs.Str.{bytes_eq}
-use Rattle.std.specs.Str.Parse.{AllDigits, digits_value}
+use Rattle.std.specs.Str.Parse.{digits_value}
 use Rattle.nb_lexer.specs.declared.word.Word.{Word}
 use Rattle.nb_lexer.specs.declared.word.Word.TheVariants as word
 use Rattle.nb_lexer.specs.Characters.{is_digit, is_gap, begins}
-use Rattle.nb_lexer.specs.Words.{fixed_text}
 use Rattle.nb_lexer.specs.Spelling.{is_first_digit, is_numeral, too_wide, SpellsNumber, is_plain, Escape, quote, backslash, line_feed, carriage_return, tab, Part, plain, escape, part_text, part_value, parts_text, parts_value, SpellsText, Spells, goes_on, Ends}
-use Rattle.nb_lexer.specs.Lexes.{Placed, word_of, token_of, Skips, Takes, Leads, Reads, HasWords}
+use Rattle.nb_lexer.specs.Lexes.{Placed, word_of, token_of, Skips, Takes, Leads, HasWords}
 use Rattle.nb_lexer.specs.Written as w
 use Rattle.nb_lexer.specs.Written.{escaped, word_text, is_quotable, IsWritable, Spaced, spaced_word, spaced_text, IsApart, AreApart, AreWritable}
 use Rattle.nb_lexer.proofs.FaultLemmas.{or_right}

@@ -1,9 +1,7 @@
 -- The first gap, one token more, and the end.
-use Rattle.std.proofs.Common.{◌≡◌, ◌≤◌, ◌+◌, length, List, sym, ap, subst, arith}
-use Rattle.std.proofs.lemmas.List.Sums.{prefix_len-le-length}
-use Rattle.nb_lexer.specs.Characters.{is_gap}
+use Rattle.std.proofs.Common.{subst, arith}
 use Rattle.nb_lexer.specs.Lexes.{AreTokens}
-use Rattle.nb_lexer.proofs.Reached.{Reached, reached_start, reached_more, reached_end}
+use Rattle.nb_lexer.proofs.Reached.{reached_start, reached_more, reached_end}
 use Rattle.nb_lexer.proofs.lexer.scan.Goals as goal
 
 pub tokens-init : goal.tokens-init

@@ -1,4 +1,3 @@
-use Rattle.std.proofs.Common.{sym, ap, ◌∙◌}
 use Rattle.nb_lexer.proofs.FixedLemmas.{sign_found, sign_missing}
 use Rattle.nb_lexer.proofs.lexer.sign_at.Goals as goal
 use Rattle.nb_lexer.proofs.lexer.sign_at.Goals.{in-Some, in-None}
