@@ -58,14 +58,16 @@ zero_is s e = same_text s (48 ∷ []) (sym e)
 pub numeral_digit : (s : List ℕ) → is_numeral s ≡ true → begins is_digit s ≡ true
 numeral_digit s e =
     elim (or_cases (bytes_eq s (48 ∷ [])) (begins is_first_digit s && list_all is_digit s) e) [
-      inl z ↦ ap (begins is_digit) (zero_is s z)
-    | inr d ↦ begins_too is_first_digit is_digit first_digit_digit s (and_parts _ _ d).0 ]
+      | inl z ↦ ap (begins is_digit) (zero_is s z)
+      | inr d ↦ begins_too is_first_digit is_digit first_digit_digit s (and_parts _ _ d).0
+    ]
 
 pub numeral_passes : (s : List ℕ) → is_numeral s ≡ true → list_all is_digit s ≡ true
 numeral_passes s e =
     elim (or_cases (bytes_eq s (48 ∷ [])) (begins is_first_digit s && list_all is_digit s) e) [
-      inl z ↦ ap (list_all is_digit) (zero_is s z)
-    | inr d ↦ (and_parts _ _ d).1 ]
+      | inl z ↦ ap (list_all is_digit) (zero_is s z)
+      | inr d ↦ (and_parts _ _ d).1
+    ]
 
 -- ---- keywords and signs
 

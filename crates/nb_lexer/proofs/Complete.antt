@@ -89,13 +89,15 @@ pub numeral_stops : (s text : List ℕ) → is_numeral s ≡ true → (bytes_eq 
 numeral_stops [] text e stop = absurd (false≢true e)
 numeral_stops (b ∷ s) text e stop =
     elim (or_cases (bytes_eq (b ∷ s) (48 ∷ [])) (is_first_digit b && list_all is_digit (b ∷ s)) e) [
-      inl z ↦ alone z
-    | inr d ↦ elim stop [ inl z ↦ alone z | inr clear ↦ more (and_parts _ _ d).0 (and_parts _ _ d).1 clear ] ]
+      | inl z ↦ alone z
+      | inr d ↦ elim stop [ inl z ↦ alone z | inr clear ↦ more (and_parts _ _ d).0 (and_parts _ _ d).1 clear ]
+    ]
   where
     alone : bytes_eq (b ∷ s) (48 ∷ []) ≡ true → numeral_len ((b ∷ s) ++ text) ≡ length (b ∷ s)
     alone z =
         let same : b ∷ s ≡ 48 ∷ [] = zero_is (b ∷ s) z in
         ap (λ d. numeral_len (d ++ text)) same ∙ ap length (sym same)
+
     more : is_first_digit b ≡ true → list_all is_digit (b ∷ s) ≡ true → begins is_digit text ≡ false → numeral_len ((b ∷ s) ++ text) ≡ length (b ∷ s)
     more first all clear =
         ap (λ d. cond d 1 (prefix_len is_digit ((b ∷ s) ++ text))) (first_digit_nonzero b first) ∙ run_stops is_digit (b ∷ s) text all clear
@@ -228,6 +230,7 @@ front_complete at w s text h stop = go (case_of w s h)
   where
     fixed : s ≡ fixed_text w → front at (fixed_text w ++ text) ≡ Ok (w, at + length (fixed_text w)) → front at (s ++ text) ≡ Ok (w, at + length s)
     fixed same found = ap (λ t. front at (t ++ text)) same ∙ found ∙ ap (λ t. let r : Found Word = Ok (w, at + length t) in r) (sym same)
+
     go : Case w s → front at (s ++ text) ≡ Ok (w, at + length s)
     go (a_name x is same e) =
         ap (λ t. front at (t ++ text)) same ∙ name_complete at x text e (subst (λ v. Ends v text) is stop)

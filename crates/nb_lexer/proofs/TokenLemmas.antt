@@ -29,7 +29,8 @@ stands at text w kind end is u h =
       behind_is = ap (drop (end - at)) h.text_is ∙ drop_at h.spelling h.behind (end - at) taken;
       further = omega arith;
       within = omega arith;
-      utf8 = spelling_cut w h.spelling h.behind h.spells (subst IsUtf8 h.text_is u) }
+      utf8 = spelling_cut w h.spelling h.behind h.spells (subst IsUtf8 h.text_is u);
+    }
 
 pub token_stands : (at : ℕ) (text : List ℕ) (kind : TokenKind) (end : ℕ) → IsUtf8 text → 0 < length text → begins is_gap text ≡ false → kind_found (front at text) ≡ Ok (kind, end)
     → Stands at text (record { kind = kind; start = at; end = end })

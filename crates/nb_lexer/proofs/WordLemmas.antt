@@ -110,10 +110,11 @@ pub worded_reads : (text : List ℕ) (ts : List Token) (ws : List Word) → IsUt
 worded_reads text ts ws u h w =
     let r = h.1 in
     let whole : IsRest text 0 text = record { rest_is = refl; within = omega arith; utf8 = u } in record {
-    placed = r.placed;
-    lexes = r.lexes;
-    tokens_are = r.tokens_are;
-    words_are = leads_words text 0 text r.placed (length text) [] ws whole r.lexes (subst (λ us. Worded text us ws) (sym r.tokens_are) w) }
+      placed = r.placed;
+      lexes = r.lexes;
+      tokens_are = r.tokens_are;
+      words_are = leads_words text 0 text r.placed (length text) [] ws whole r.lexes (subst (λ us. Worded text us ws) (sym r.tokens_are) w);
+    }
 
 -- ---- the code's loop
 
