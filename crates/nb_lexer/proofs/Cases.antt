@@ -1,17 +1,17 @@
 -- What kinds of words there are, and what holds of the spelling of each.
-use Rattle.std.proofs.Common.{◌≡◌, ◌≢◌, ◌≤◌, ◌<◌, ◌+◌, ◌-◌, ◌&&◌, ◌||◌, ◌==◌, ◌⊎◌, inl, inr, ℕ, ℤ, zero, suc, Bool, true, false, cond, not, nat_lt, nat_eq, List, [], ◌∷◌, ◌++◌, length, take, drop, Option, Some, None, refl, sym, ap, subst, ◌∙◌, append_assoc, arith}
-use Rattle.std.proofs.lemmas.Bool.{and_parts, or_cases, false≢true}
+use Rattle.std.proofs.Common.{◌≡◌, ◌<◌, ◌&&◌, inl, inr, ℕ, ℤ, Bool, true, false, nat_lt, List, [], ◌∷◌, ◌++◌, length, refl, sym, ap, arith}
+use Rattle.std.proofs.lemmas.Bool.{and_parts, or_cases}
 use Rattle.std.proofs.lemmas.Bool.Decides.{nat_tests}
 use Rattle.std.specs.Cmp.Lexicographic.{same_text}
 use Rattle.std.specs.List.{list_all}
-use Rattle.std.specs.Str.{bytes_eq, IsUtf8}
+use Rattle.std.specs.Str.{bytes_eq}
 use Rattle.nb_lexer.specs.declared.word.Word.{Word}
 use Rattle.nb_lexer.specs.declared.word.Word.TheVariants as word
 use Rattle.nb_lexer.specs.declared.token.TokenKind.TheVariants as kind
 use Rattle.nb_lexer.specs.Characters.{is_digit, is_letter, is_in_name, is_quote, is_gap, begins}
 use Rattle.nb_lexer.specs.Words.{fixed_text, kind_of}
-use Rattle.nb_lexer.specs.Spelling.{is_first_digit, is_numeral, is_name, SpellsNumber, parts_text, SpellsText, Spells}
-use Rattle.nb_lexer.proofs.Runs.{digit_ascii, in_name_ascii, letter_in_name, letter_no_gap, digit_no_gap, begins-append, begins_not, begins_too, utf8_behind, utf8_behind_run}
+use Rattle.nb_lexer.specs.Spelling.{is_first_digit, is_numeral, is_name, SpellsNumber, SpellsText, Spells}
+use Rattle.nb_lexer.proofs.Runs.{begins_too}
 
 -- what a word is, by its spelling
 pub data Case (w : Word) (s : List ℕ) : Type 0 where
@@ -58,14 +58,16 @@ zero_is s e = same_text s (48 ∷ []) (sym e)
 pub numeral_digit : (s : List ℕ) → is_numeral s ≡ true → begins is_digit s ≡ true
 numeral_digit s e =
     elim (or_cases (bytes_eq s (48 ∷ [])) (begins is_first_digit s && list_all is_digit s) e) [
-      inl z ↦ ap (begins is_digit) (zero_is s z)
-    | inr d ↦ begins_too is_first_digit is_digit first_digit_digit s (and_parts _ _ d).0 ]
+      | inl z ↦ ap (begins is_digit) (zero_is s z)
+      | inr d ↦ begins_too is_first_digit is_digit first_digit_digit s (and_parts _ _ d).0
+    ]
 
 pub numeral_passes : (s : List ℕ) → is_numeral s ≡ true → list_all is_digit s ≡ true
 numeral_passes s e =
     elim (or_cases (bytes_eq s (48 ∷ [])) (begins is_first_digit s && list_all is_digit s) e) [
-      inl z ↦ ap (list_all is_digit) (zero_is s z)
-    | inr d ↦ (and_parts _ _ d).1 ]
+      | inl z ↦ ap (list_all is_digit) (zero_is s z)
+      | inr d ↦ (and_parts _ _ d).1
+    ]
 
 -- ---- keywords and signs
 

@@ -1,5 +1,5 @@
 -- What is spelled at the front is found there.
-use Rattle.std.proofs.Common.{◌≡◌, ◌≢◌, ◌≤◌, ◌<◌, ◌+◌, ◌-◌, ◌^◌, ◌&&◌, ◌||◌, ◌==◌, ◌⊎◌, inl, inr, ℕ, ℤ, pos, zero, suc, Bool, true, false, cond, not, nat_lt, nat_eq, List, [], ◌∷◌, ◌++◌, length, take, drop, Option, Some, None, is_none, unwrap_or, Result, Ok, Err, refl, sym, ap, subst, ◌∙◌, append_assoc, append-nil, length-append, add-zero, arith}
+use Rattle.std.proofs.Common.{◌≡◌, ◌+◌, ◌&&◌, ◌==◌, ◌⊎◌, inl, inr, ℕ, ℤ, pos, Bool, true, false, cond, not, nat_lt, nat_eq, List, [], ◌∷◌, ◌++◌, length, take, drop, Option, Some, None, is_none, unwrap_or, Ok, Err, refl, sym, ap, subst, ◌∙◌, append_assoc, append-nil, length-append, add-zero, arith}
 use Rattle.std.proofs.lemmas.Bool.{and_parts, or_cases, false≢true, not-true}
 use Rattle.std.proofs.lemmas.Bool.Decides.{nat_tests}
 use Rattle.std.proofs.lemmas.List.{take_at, drop_at}
@@ -9,15 +9,14 @@ use Rattle.std.specs.Str.Parse.{digits_value}
 use Rattle.nb_lexer.specs.declared.word.Word.{Word}
 use Rattle.nb_lexer.specs.declared.word.Word.TheVariants as word
 use Rattle.nb_lexer.specs.declared.token.TokenKind.TheVariants as kind
-use Rattle.nb_lexer.specs.declared.fault.LexError.{LexError}
-use Rattle.nb_lexer.specs.declared.fault.LexError.TheVariants.{BadCharacter, OpenText, BadEscape, TooWide, Memory}
-use Rattle.nb_lexer.specs.Characters.{is_digit, is_letter, is_in_name, is_quote, is_gap, begins}
+use Rattle.nb_lexer.specs.declared.fault.LexError.TheVariants.{BadCharacter, TooWide}
+use Rattle.nb_lexer.specs.Characters.{is_digit, is_letter, is_in_name, is_quote, begins}
 use Rattle.nb_lexer.specs.Words.{fixed_text, keyword, sign, kind_of}
-use Rattle.nb_lexer.specs.Spelling.{is_first_digit, is_numeral, is_name, too_wide, SpellsNumber, Escape, quote, backslash, line_feed, carriage_return, tab, letter, escaped, is_plain, Part, plain, escape, part_text, part_value, parts_text, parts_value, SpellsText, Spells, goes_on, Ends}
-use Rattle.nb_lexer.specs.Scan.{Found, name_word, name_at, sign_or_stray, numeral_len, number_at, unescaped, with_front, escaped_byte, inside, quoted_word, front}
-use Rattle.nb_lexer.proofs.Runs.{run_stops, begins-append, begins_not, letter_no_digit, digit_no_letter, quote_no_letter, quote_no_digit, digit_in_name}
+use Rattle.nb_lexer.specs.Spelling.{is_first_digit, is_numeral, is_name, too_wide, SpellsNumber, Escape, quote, backslash, line_feed, carriage_return, tab, escaped, Part, plain, escape, part_text, part_value, parts_text, parts_value, SpellsText, Spells, Ends}
+use Rattle.nb_lexer.specs.Scan.{Found, name_word, name_at, sign_or_stray, numeral_len, number_at, with_front, inside, quoted_word, front}
+use Rattle.nb_lexer.proofs.Runs.{run_stops, begins-append, begins_not, digit_no_letter, quote_no_letter, quote_no_digit, digit_in_name}
 use Rattle.nb_lexer.proofs.FixedLemmas.{keyword_of, keyword_goes_on}
-use Rattle.nb_lexer.proofs.Cases.{Case, a_name, a_number, a_text, a_keyword, a_sign, case_of, name_letter, name_passes, numeral_digit, numeral_passes, zero_is, keyword_letter, keyword_passes, sign_begins}
+use Rattle.nb_lexer.proofs.Cases.{Case, a_name, a_number, a_text, a_keyword, a_sign, case_of, name_letter, name_passes, numeral_digit, zero_is, keyword_letter, keyword_passes, sign_begins}
 
 -- ---- which of the four it is
 
@@ -90,13 +89,15 @@ pub numeral_stops : (s text : List ℕ) → is_numeral s ≡ true → (bytes_eq 
 numeral_stops [] text e stop = absurd (false≢true e)
 numeral_stops (b ∷ s) text e stop =
     elim (or_cases (bytes_eq (b ∷ s) (48 ∷ [])) (is_first_digit b && list_all is_digit (b ∷ s)) e) [
-      inl z ↦ alone z
-    | inr d ↦ elim stop [ inl z ↦ alone z | inr clear ↦ more (and_parts _ _ d).0 (and_parts _ _ d).1 clear ] ]
+      | inl z ↦ alone z
+      | inr d ↦ elim stop [ inl z ↦ alone z | inr clear ↦ more (and_parts _ _ d).0 (and_parts _ _ d).1 clear ]
+    ]
   where
     alone : bytes_eq (b ∷ s) (48 ∷ []) ≡ true → numeral_len ((b ∷ s) ++ text) ≡ length (b ∷ s)
     alone z =
         let same : b ∷ s ≡ 48 ∷ [] = zero_is (b ∷ s) z in
         ap (λ d. numeral_len (d ++ text)) same ∙ ap length (sym same)
+
     more : is_first_digit b ≡ true → list_all is_digit (b ∷ s) ≡ true → begins is_digit text ≡ false → numeral_len ((b ∷ s) ++ text) ≡ length (b ∷ s)
     more first all clear =
         ap (λ d. cond d 1 (prefix_len is_digit ((b ∷ s) ++ text))) (first_digit_nonzero b first) ∙ run_stops is_digit (b ∷ s) text all clear
@@ -229,6 +230,7 @@ front_complete at w s text h stop = go (case_of w s h)
   where
     fixed : s ≡ fixed_text w → front at (fixed_text w ++ text) ≡ Ok (w, at + length (fixed_text w)) → front at (s ++ text) ≡ Ok (w, at + length s)
     fixed same found = ap (λ t. front at (t ++ text)) same ∙ found ∙ ap (λ t. let r : Found Word = Ok (w, at + length t) in r) (sym same)
+
     go : Case w s → front at (s ++ text) ≡ Ok (w, at + length s)
     go (a_name x is same e) =
         ap (λ t. front at (t ++ text)) same ∙ name_complete at x text e (subst (λ v. Ends v text) is stop)

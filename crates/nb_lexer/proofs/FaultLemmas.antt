@@ -1,5 +1,5 @@
 -- What is a fault is found as that fault.
-use Rattle.std.proofs.Common.{◌≡◌, ◌≢◌, ◌≤◌, ◌<◌, ◌+◌, ◌-◌, ◌^◌, ◌&&◌, ◌||◌, ◌==◌, ◌⊎◌, inl, inr, ℕ, ℤ, pos, zero, suc, Bool, true, false, cond, not, nat_lt, nat_eq, List, [], ◌∷◌, ◌++◌, length, take, drop, Option, Some, None, Result, Ok, Err, refl, sym, ap, subst, ◌∙◌, append_assoc, length-append, arith}
+use Rattle.std.proofs.Common.{◌≡◌, ◌≢◌, ◌≤◌, ◌+◌, ◌&&◌, ◌||◌, ◌==◌, ◌⊎◌, inl, inr, ℕ, pos, Bool, true, false, cond, nat_lt, List, [], ◌∷◌, ◌++◌, length, take, drop, Option, Some, None, Ok, Err, refl, sym, ap, subst, ◌∙◌, arith}
 use Rattle.std.proofs.lemmas.Bool.{and_parts, and_from, or_cases, false≢true}
 use Rattle.std.proofs.lemmas.Bool.Decides.{nat_tests}
 use Rattle.std.proofs.lemmas.List.{take_at, take-take}
@@ -12,12 +12,11 @@ use Rattle.nb_lexer.specs.declared.word.Word.{Word}
 use Rattle.nb_lexer.specs.declared.word.Word.TheVariants as word
 use Rattle.nb_lexer.specs.declared.fault.LexError.{LexError}
 use Rattle.nb_lexer.specs.declared.fault.LexError.TheVariants.{BadCharacter, OpenText, BadEscape, TooWide, Memory}
-use Rattle.nb_lexer.specs.Characters.{is_digit, is_letter, is_in_name, is_quote, is_gap, begins}
-use Rattle.nb_lexer.specs.Words.{sign}
+use Rattle.nb_lexer.specs.Characters.{is_digit, is_letter, is_in_name, is_quote, begins}
 use Rattle.nb_lexer.specs.Spelling.{is_first_digit, is_numeral, too_wide, Escape, quote, backslash, line_feed, carriage_return, tab, letter, parts_text, parts_value}
 use Rattle.nb_lexer.specs.Faults.{IsStray, RunsOn, IsWide, IsControl, IsNoEscape, IsOpen, FaultAt}
 use Rattle.nb_lexer.specs.Scan.{Found, sign_or_stray, numeral_len, unescaped, with_front, escaped_byte, inside, quoted_word, front}
-use Rattle.nb_lexer.proofs.Runs.{begins-append, begins_too}
+use Rattle.nb_lexer.proofs.Runs.{begins-append}
 use Rattle.nb_lexer.proofs.Cases.{numeral_digit, numeral_passes, zero_is}
 use Rattle.nb_lexer.proofs.Complete.{begins_digit, begins_other, numeral_stops, checked, number_is, text_is}
 
@@ -34,9 +33,9 @@ no_quote_byte b h = go (is_quote b) refl
 stray_fails : (at : ℕ) (text : List ℕ) (place : ℕ) → IsStray at text place → Fails at text (BadCharacter place)
 stray_fails at text place h =
     begins_other at text
-        (ap (begins is_letter) h.text_is ∙ h.no_letter)
-        (ap (begins is_digit) h.text_is ∙ h.no_digit)
-        (ap (begins is_quote) h.text_is ∙ no_quote_byte h.first h.no_quote)
+    (ap (begins is_letter) h.text_is ∙ h.no_letter)
+    (ap (begins is_digit) h.text_is ∙ h.no_digit)
+    (ap (begins is_quote) h.text_is ∙ no_quote_byte h.first h.no_quote)
     ∙ ap (sign_or_stray at) h.no_sign
     ∙ ap (λ n. let r : Found Word = Err (BadCharacter n) in r) (sym h.place_is)
 
@@ -50,8 +49,9 @@ or_right false y e = e
 stops_at : (digits : List ℕ) (next : ℕ) → is_numeral digits ≡ true → is_numeral (digits ++ next ∷ []) ≡ false → (bytes_eq digits (48 ∷ []) ≡ true) ⊎ (is_digit next ≡ false)
 stops_at digits next e further =
     elim (or_cases (bytes_eq digits (48 ∷ [])) (begins is_first_digit digits && list_all is_digit digits) e) [
-      inl z ↦ inl z
-    | inr d ↦ inr (go (is_digit next) refl (and_parts _ _ d).0 (and_parts _ _ d).1) ]
+      | inl z ↦ inl z
+      | inr d ↦ inr (go (is_digit next) refl (and_parts _ _ d).0 (and_parts _ _ d).1)
+    ]
   where
     go : (b : Bool) → is_digit next ≡ b → begins is_first_digit digits ≡ true → list_all is_digit digits ≡ true → is_digit next ≡ false
     go false is first all = is
@@ -84,8 +84,9 @@ run_least p (b ∷ run) text all =
 wide_first : (digits : List ℕ) → is_numeral digits ≡ true → too_wide ≤ digits_value 10 digits → begins is_first_digit digits ≡ true
 wide_first digits e wide =
     elim (or_cases (bytes_eq digits (48 ∷ [])) (begins is_first_digit digits && list_all is_digit digits) e) [
-      inl z ↦ let none : digits_value 10 digits ≡ 0 = ap (digits_value 10) (zero_is digits z) in absurd (omega arith)
-    | inr d ↦ (and_parts _ _ d).0 ]
+      | inl z ↦ let none : digits_value 10 digits ≡ 0 = ap (digits_value 10) (zero_is digits z) in absurd (omega arith)
+      | inr d ↦ (and_parts _ _ d).0
+    ]
 
 wide_len : (digits more : List ℕ) → begins is_first_digit digits ≡ true → list_all is_digit digits ≡ true → length digits ≤ numeral_len (digits ++ more)
 wide_len [] more first all = absurd (false≢true first)
@@ -100,11 +101,12 @@ wide_value text at place h = least (numeral_len text) long
   where
     long : length h.digits ≤ numeral_len text
     long = subst (λ t. length h.digits ≤ numeral_len t) (sym h.text_is) (wide_len h.digits h.more (wide_first h.digits h.numeral h.wide) (numeral_passes h.digits h.numeral))
+
     least : (n : ℕ) → length h.digits ≤ n → too_wide ≤ digits_value 10 (take n text)
     least n enough =
         let same : take (length h.digits) (take n text) ≡ h.digits = take-take (length h.digits) n text enough ∙ ap (take (length h.digits)) h.text_is ∙ take_at h.digits h.more (length h.digits) refl in
         let more : digits_value 10 h.digits ≤ digits_value 10 (take n text) =
-            subst (λ ds. digits_value 10 ds ≤ digits_value 10 (take n text)) same (digits_value-take-le 10 (take n text) (length h.digits) (omega arith)) in
+        subst (λ ds. digits_value 10 ds ≤ digits_value 10 (take n text)) same (digits_value-take-le 10 (take n text) (length h.digits) (omega arith)) in
         let wide = h.wide in omega (arith, wide, more)
 
 wide_checked : (at n value : ℕ) (more : Bool) → too_wide ≤ value → checked at n value more ≡ Err (TooWide at)
@@ -158,8 +160,9 @@ open_fails at text place h =
     ap (front at) h.text_is
     ∙ text_is at h.parts h.tail
     ∙ elim h.tail_is [
-      inl e ↦ ap (λ t. quoted_word (with_front (parts_value h.parts) (inside at false n t))) e ∙ place
-    | inr e ↦ ap (λ t. quoted_word (with_front (parts_value h.parts) (inside at false n t))) e ∙ place ]
+      | inl e ↦ ap (λ t. quoted_word (with_front (parts_value h.parts) (inside at false n t))) e ∙ place
+      | inr e ↦ ap (λ t. quoted_word (with_front (parts_value h.parts) (inside at false n t))) e ∙ place
+    ]
 
 pub fault_fails : (at : ℕ) (text : List ℕ) (e : LexError) → FaultAt at text e → front at text ≡ Err e
 fault_fails at text (BadCharacter place) (inl h) = stray_fails at text place h

@@ -1,7 +1,5 @@
 -- Keywords and signs: what is looked up is what is spelled.
-use Rattle.std.proofs.Common.{◌≡◌, ◌≢◌, ◌≤◌, ◌<◌, ◌+◌, ◌-◌, ◌&&◌, ◌||◌, ◌==◌, ℕ, zero, suc, Bool, true, false, cond, not, nat_lt, nat_eq, List, [], ◌∷◌, ◌++◌, length, take, drop, Option, Some, None, Result, Ok, Err, option_map, unwrap_or, refl, sym, ap, subst, ◌∙◌, arith}
-use Rattle.std.proofs.lemmas.Bool.{false≢true}
-use Rattle.std.proofs.lemmas.Bool.Decides.{nat_tests}
+use Rattle.std.proofs.Common.{◌≡◌, ◌+◌, ℕ, Bool, true, false, cond, nat_eq, List, [], ◌∷◌, ◌++◌, length, take, drop, Option, Some, None, Ok, Err, option_map, unwrap_or, refl, sym, ap, subst, ◌∙◌}
 use Rattle.std.proofs.lemmas.List.{take-append-drop}
 use Rattle.std.specs.Cmp.Lexicographic.{same_text}
 use Rattle.std.specs.List.{find, starts_with, AllByRecursion}
@@ -11,9 +9,9 @@ use Rattle.nb_lexer.specs.declared.word.Word.TheVariants as word
 use Rattle.nb_lexer.specs.declared.token.TokenKind.{TokenKind}
 use Rattle.nb_lexer.specs.declared.token.TokenKind.TheVariants as kind
 use Rattle.nb_lexer.specs.declared.fault.LexError.TheVariants.{BadCharacter}
-use Rattle.nb_lexer.specs.Characters.{is_in_name, is_gap, begins}
+use Rattle.nb_lexer.specs.Characters.{is_in_name}
 use Rattle.nb_lexer.specs.Words.{fixed_text, keywords, signs, keyword, sign, kind_of}
-use Rattle.nb_lexer.specs.Spelling.{Spells, goes_on, Ends}
+use Rattle.nb_lexer.specs.Spelling.{Spells, goes_on}
 use Rattle.nb_lexer.specs.Scan.{Found, name_word, sign_or_stray, kind_found}
 
 -- ---- what is found passes

@@ -1,8 +1,7 @@
 -- Quoted texts, part by part, and that their bytes are UTF-8.
-use Rattle.std.proofs.Common.{◌≡◌, ◌≢◌, ◌≤◌, ◌<◌, ◌^◌, ◌+◌, ◌-◌, ◌&&◌, ◌||◌, ◌==◌, ℕ, zero, suc, Bool, true, false, cond, not, nat_lt, nat_eq, List, [], ◌∷◌, ◌++◌, length, take, drop, get_or, Option, Some, None, Result, Ok, Err, refl, sym, ap, subst, ◌∙◌, append_assoc, arith, rules}
-use Rattle.std.proofs.lemmas.Bool.Decides.{nat_tests}
+use Rattle.std.proofs.Common.{◌≡◌, ◌+◌, ◌-◌, ◌==◌, ℕ, zero, suc, Bool, true, false, cond, nat_lt, List, [], ◌∷◌, ◌++◌, drop, Option, Some, None, Result, Ok, Err, refl, sym, ap, ◌∙◌, append_assoc, arith}
 use Rattle.nb_lexer.specs.declared.fault.LexError.{LexError}
-use Rattle.nb_lexer.specs.declared.fault.LexError.TheVariants.{BadCharacter, OpenText, BadEscape, TooWide, Memory}
+use Rattle.nb_lexer.specs.declared.fault.LexError.TheVariants.{BadCharacter}
 use Rattle.nb_lexer.specs.Scan.{Found, unescaped, escape_or_bad, escape_at, part_at, with_front, escaped_byte, inside}
 
 with_front-append : (xs ys : List ℕ) (found : Found (List ℕ)) → with_front (xs ++ ys) found ≡ with_front xs (with_front ys found)

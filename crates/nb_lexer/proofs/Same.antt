@@ -1,5 +1,5 @@
 -- A text has one list of tokens, or one first fault.
-use Rattle.std.proofs.Common.{◌≡◌, ◌≢◌, ◌≤◌, ◌<◌, ◌+◌, ◌-◌, ◌⊎◌, inl, inr, ℕ, Bool, true, false, List, [], ◌∷◌, ◌++◌, length, drop, map, Result, Ok, Err, IfOk, IfErr, refl, sym, ap, subst, ◌∙◌, length-append, arith}
+use Rattle.std.proofs.Common.{◌≡◌, ◌<◌, ◌+◌, ◌-◌, inl, inr, ℕ, true, false, List, [], ◌∷◌, ◌++◌, length, drop, map, Result, Ok, Err, IfOk, IfErr, refl, sym, ap, subst, ◌∙◌, length-append, arith}
 use Rattle.std.proofs.lemmas.Bool.{false≢true}
 use Rattle.std.proofs.lemmas.List.{drop_at}
 use Rattle.std.specs.List.{prefix_len}
@@ -25,7 +25,8 @@ skips_is : (at : ℕ) (text : List ℕ) (stop : ℕ) (after : List ℕ) → Skip
 skips_is at text stop after s clear =
     let len : prefix_len is_gap text ≡ length s.gap = ap (prefix_len is_gap) s.text_is ∙ run_stops is_gap s.gap after s.gap_is clear in (
       s.stop_is ∙ ap (λ n. at + n) (sym len),
-      sym (ap (drop (prefix_len is_gap text)) s.text_is ∙ drop_at s.gap after (prefix_len is_gap text) (sym len)) )
+      sym (ap (drop (prefix_len is_gap text)) s.text_is ∙ drop_at s.gap after (prefix_len is_gap text) (sym len)),
+    )
 
 skips_same : (at : ℕ) (text : List ℕ) (stop halt : ℕ) (after behind : List ℕ) → Skips at text stop after → begins is_gap after ≡ false → Skips at text halt behind → begins is_gap behind ≡ false
     → (stop ≡ halt) × (after ≡ behind)

@@ -1,8 +1,8 @@
 -- What is found at the front is spelled there, and what is no word there is a fault.
-use Rattle.std.proofs.Common.{◌≡◌, ◌≢◌, ◌≤◌, ◌<◌, ◌+◌, ◌-◌, ◌^◌, ◌&&◌, ◌||◌, ◌==◌, ◌⊎◌, inl, inr, ℕ, ℤ, pos, zero, suc, Bool, true, false, cond, not, nat_lt, nat_eq, List, [], ◌∷◌, ◌++◌, length, take, drop, Option, Some, None, is_none, unwrap_or, Result, Ok, Err, refl, sym, ap, subst, ◌∙◌, append_assoc, append-nil, add-zero, length-append, arith}
-use Rattle.std.proofs.lemmas.Bool.{and_parts, and_from, and_right, or_cases, false≢true}
+use Rattle.std.proofs.Common.{◌≡◌, ◌≢◌, ◌≤◌, ◌<◌, ◌+◌, ◌&&◌, ◌||◌, ◌==◌, ◌⊎◌, inl, inr, ℕ, pos, Bool, true, false, cond, nat_lt, List, [], ◌∷◌, ◌++◌, length, take, drop, Option, Some, None, is_none, unwrap_or, Ok, Err, refl, sym, ap, subst, ◌∙◌, append_assoc, add-zero, length-append, arith}
+use Rattle.std.proofs.lemmas.Bool.{and_from, and_right, false≢true}
 use Rattle.std.proofs.lemmas.Bool.Decides.{nat_tests}
-use Rattle.std.proofs.lemmas.List.{take-append-drop, drop_at}
+use Rattle.std.proofs.lemmas.List.{take-append-drop}
 use Rattle.std.proofs.lemmas.List.Folds.{list_all-append, length-prefix_len}
 use Rattle.std.specs.List.{prefix_len, list_all}
 use Rattle.std.specs.Str.{bytes_eq}
@@ -10,13 +10,12 @@ use Rattle.std.specs.Str.Parse.{digits_value}
 use Rattle.nb_lexer.specs.declared.word.Word.{Word}
 use Rattle.nb_lexer.specs.declared.word.Word.TheVariants as word
 use Rattle.nb_lexer.specs.declared.token.TokenKind.TheVariants as kind
-use Rattle.nb_lexer.specs.declared.fault.LexError.{LexError}
 use Rattle.nb_lexer.specs.declared.fault.LexError.TheVariants.{BadCharacter, OpenText, BadEscape, TooWide, Memory}
 use Rattle.nb_lexer.specs.Characters.{is_digit, is_letter, is_in_name, is_quote, is_gap, begins}
 use Rattle.nb_lexer.specs.Words.{fixed_text, keyword, sign, kind_of}
-use Rattle.nb_lexer.specs.Spelling.{is_first_digit, is_numeral, is_name, too_wide, SpellsNumber, Escape, quote, backslash, line_feed, carriage_return, tab, letter, escaped, is_plain, Part, plain, escape, part_text, part_value, parts_text, parts_value, SpellsText, Spells, goes_on, Ends}
-use Rattle.nb_lexer.specs.Faults.{IsStray, RunsOn, IsWide, IsControl, IsNoEscape, IsOpen, FaultAt}
-use Rattle.nb_lexer.specs.Scan.{Found, name_word, name_at, sign_or_stray, numeral_len, number_at, unescaped, with_front, escaped_byte, inside, quoted_word, front}
+use Rattle.nb_lexer.specs.Spelling.{is_first_digit, is_numeral, is_name, too_wide, Escape, quote, backslash, line_feed, carriage_return, tab, letter, escaped, is_plain, Part, plain, escape, part_text, part_value, parts_text, parts_value, Spells, Ends}
+use Rattle.nb_lexer.specs.Faults.{FaultAt}
+use Rattle.nb_lexer.specs.Scan.{Found, name_at, sign_or_stray, numeral_len, number_at, unescaped, with_front, escaped_byte, inside, quoted_word, front}
 use Rattle.nb_lexer.proofs.Runs.{run_passes, run_clear, run_begins, begins_never, begins_too, letter_in_name}
 use Rattle.nb_lexer.proofs.FixedLemmas.{keyword_kind, keyword_text, keyword_spells, keyword_goes_on, sign_kind, sign_text, sign_spells}
 use Rattle.nb_lexer.proofs.FaultLemmas.{or_right}
@@ -46,12 +45,13 @@ keyword_ends w k (b ∷ text) e = keyword_goes_on w k b ∙ e
 run_right : (at : ℕ) (text : List ℕ) (w : Word) → Spells w (take (prefix_len is_in_name text) text) → Ends w (drop (prefix_len is_in_name text) text)
     → Spelled at text w (at + prefix_len is_in_name text)
 run_right at text w spells ends = record {
-    spelling = take (prefix_len is_in_name text) text;
-    behind = drop (prefix_len is_in_name text) text;
-    text_is = sym (take-append-drop (prefix_len is_in_name text) text);
-    spells = spells;
-    ends = ends;
-    end_is = ap (λ n. at + n) (sym (length-prefix_len is_in_name text)) }
+  spelling = take (prefix_len is_in_name text) text;
+  behind = drop (prefix_len is_in_name text) text;
+  text_is = sym (take-append-drop (prefix_len is_in_name text) text);
+  spells = spells;
+  ends = ends;
+  end_is = ap (λ n. at + n) (sym (length-prefix_len is_in_name text));
+}
 
 name_is : (x : List ℕ) → begins is_letter x ≡ true → list_all is_in_name x ≡ true → keyword x ≡ None → is_name x ≡ true
 name_is x first all none = and_from _ _ (and_from _ _ first all) (ap is_none none)
@@ -92,7 +92,7 @@ no_longer : (digits : List ℕ) (next : ℕ) → begins is_first_digit digits �
 no_longer [] next first e = absurd (false≢true first)
 no_longer (b ∷ digits) next first e =
     let last : list_all is_digit ((b ∷ digits) ++ next ∷ []) ≡ false =
-        list_all-append is_digit (b ∷ digits) (next ∷ []) ∙ and_right (list_all is_digit (b ∷ digits)) (list_all is_digit (next ∷ [])) (rw e) in
+    list_all-append is_digit (b ∷ digits) (next ∷ []) ∙ and_right (list_all is_digit (b ∷ digits)) (list_all is_digit (next ∷ [])) (rw e) in
     ap (λ d. (d && bytes_eq (digits ++ next ∷ []) []) || (is_first_digit b && list_all is_digit ((b ∷ digits) ++ next ∷ []))) (first_digit_nonzero b first)
     ∙ and_right (is_first_digit b) (list_all is_digit ((b ∷ digits) ++ next ∷ [])) last
 
@@ -100,14 +100,15 @@ zero_digits : (b : ℕ) (text : List ℕ) → (b == 48) ≡ true → Digits (b �
 zero_digits b text z =
     let zero : b ≡ 48 = grind (arith, nat_tests) in
     let len : numeral_len (b ∷ text) ≡ 1 = rw z in record {
-    digits = b ∷ [];
-    behind = text;
-    text_is = refl;
-    take_is = ap (λ n. take n (b ∷ text)) len;
-    drop_is = ap (λ n. drop n (b ∷ text)) len;
-    len_is = len;
-    numeral = ap (λ c. is_numeral (c ∷ [])) zero;
-    no_further = λ next more is. rw (zero_first b z) (ap (λ c. bytes_eq (c ∷ next ∷ []) (48 ∷ []) || false) zero) }
+      digits = b ∷ [];
+      behind = text;
+      text_is = refl;
+      take_is = ap (λ n. take n (b ∷ text)) len;
+      drop_is = ap (λ n. drop n (b ∷ text)) len;
+      len_is = len;
+      numeral = ap (λ c. is_numeral (c ∷ [])) zero;
+      no_further = λ next more is. rw (zero_first b z) (ap (λ c. bytes_eq (c ∷ next ∷ []) (48 ∷ []) || false) zero);
+    }
 
 run_digits : (b : ℕ) (text : List ℕ) → is_digit b ≡ true → (b == 48) ≡ false → Digits (b ∷ text)
 run_digits b text e z =
@@ -116,14 +117,15 @@ run_digits b text e z =
     let len : numeral_len whole ≡ n = ap (λ d. cond d 1 n) z in
     let all : list_all is_digit (take n whole) ≡ true = run_passes is_digit whole in
     let first : begins is_first_digit (take n whole) ≡ true = run_begins is_digit is_first_digit whole e (nonzero_first b e z) in record {
-    digits = take n whole;
-    behind = drop n whole;
-    text_is = sym (take-append-drop n whole);
-    take_is = ap (λ k. take k whole) len;
-    drop_is = ap (λ k. drop k whole) len;
-    len_is = len ∙ sym (length-prefix_len is_digit whole);
-    numeral = or_right _ _ (and_from _ _ first all);
-    no_further = λ next more is. no_longer (take n whole) next first (ap (begins is_digit) (sym is) ∙ run_clear is_digit whole) }
+      digits = take n whole;
+      behind = drop n whole;
+      text_is = sym (take-append-drop n whole);
+      take_is = ap (λ k. take k whole) len;
+      drop_is = ap (λ k. drop k whole) len;
+      len_is = len ∙ sym (length-prefix_len is_digit whole);
+      numeral = or_right _ _ (and_from _ _ first all);
+      no_further = λ next more is. no_longer (take n whole) next first (ap (begins is_digit) (sym is) ∙ run_clear is_digit whole);
+    }
 
 digits_of : (text : List ℕ) → begins is_digit text ≡ true → Digits text
 digits_of [] e = absurd (false≢true e)
@@ -149,26 +151,42 @@ number_right at text e = go (digits_of text e)
   where
     fits_when : (n : ℕ) → nat_lt n too_wide ≡ true → n < too_wide
     fits_when n f = grind (arith, nat_tests)
+
     wide_when : (n : ℕ) → nat_lt n too_wide ≡ false → too_wide ≤ n
     wide_when n f = grind (arith, nat_tests)
+
     right : (d : Digits text) (f : Bool) → nat_lt (digits_value 10 d.digits) too_wide ≡ f → (m : Bool) → begins is_in_name d.behind ≡ m
         → IsRight at text (cond f (cond m (Err (BadCharacter (at + length d.digits))) (Ok (word.Number (pos (digits_value 10 d.digits)), at + length d.digits))) (Err (TooWide at)))
     right d true f true m =
         let b = first_of is_in_name d.behind m in
         inr (inl (record {
-            digits = d.digits; next = b.first; more = b.more; text_is = d.text_is ∙ ap (λ t. d.digits ++ t) b.text_is; numeral = d.numeral;
-            fits = fits_when _ f; next_is = b.passes; no_further = d.no_further b.first b.more b.text_is; place_is = refl }))
+          digits = d.digits;
+          next = b.first;
+          more = b.more;
+          text_is = d.text_is ∙ ap (λ t. d.digits ++ t) b.text_is;
+          numeral = d.numeral;
+          fits = fits_when _ f;
+          next_is = b.passes;
+          no_further = d.no_further b.first b.more b.text_is;
+          place_is = refl;
+        }))
     right d true f false m = record {
-        spelling = d.digits; behind = d.behind; text_is = d.text_is;
-        spells = record { numeral = d.numeral; value = refl; fits = fits_when _ f }; ends = m; end_is = refl }
+      spelling = d.digits;
+      behind = d.behind;
+      text_is = d.text_is;
+      spells = record { numeral = d.numeral; value = refl; fits = fits_when _ f };
+      ends = m;
+      end_is = refl;
+    }
     right d false f m n = record { digits = d.digits; more = d.behind; text_is = d.text_is; numeral = d.numeral; wide = wide_when _ f; place_is = refl }
+
     go : Digits text → IsRight at text (number_at at text)
     go d =
         let n = numeral_len text in
         let is : checked at n (digits_value 10 (take n text)) (begins is_in_name (drop n text)) ≡ checked at (length d.digits) (digits_value 10 d.digits) (begins is_in_name d.behind) =
-            ap (λ ds. checked at n (digits_value 10 ds) (begins is_in_name (drop n text))) d.take_is
-            ∙ ap (λ t. checked at n (digits_value 10 d.digits) (begins is_in_name t)) d.drop_is
-            ∙ ap (λ k. checked at k (digits_value 10 d.digits) (begins is_in_name d.behind)) d.len_is in
+        ap (λ ds. checked at n (digits_value 10 ds) (begins is_in_name (drop n text))) d.take_is
+        ∙ ap (λ t. checked at n (digits_value 10 d.digits) (begins is_in_name t)) d.drop_is
+        ∙ ap (λ k. checked at k (digits_value 10 d.digits) (begins is_in_name d.behind)) d.len_is in
         subst (IsRight at text) (sym is) (right d _ refl _ refl)
 
 -- ---- quoted texts
@@ -217,20 +235,22 @@ IsInside q at text (Err Memory) = ⊥
 halts_behind : (at : ℕ) (text : List ℕ) (place : ℕ) (Bad : List ℕ → ℕ → ℕ → Type 0) (part : Part) → Halts (at + length (part_text part)) text place Bad → Halts at (part_text part ++ text) place Bad
 halts_behind at text place Bad part h =
     let here : at + length (part_text part) + length (parts_text h.parts) ≡ at + length (parts_text (part ∷ h.parts)) = omega (arith, length-append (part_text part) (parts_text h.parts)) in record {
-    parts = part ∷ h.parts;
-    tail = h.tail;
-    text_is = ap (λ t. part_text part ++ t) h.text_is ∙ sym (append_assoc (part_text part) (parts_text h.parts) h.tail);
-    bad = subst (λ n. Bad h.tail n place) here h.bad }
+      parts = part ∷ h.parts;
+      tail = h.tail;
+      text_is = ap (λ t. part_text part ++ t) h.text_is ∙ sym (append_assoc (part_text part) (parts_text h.parts) h.tail);
+      bad = subst (λ n. Bad h.tail n place) here h.bad;
+    }
 
 part_inside : (q at : ℕ) (text : List ℕ) (part : Part) (found : Found (List ℕ)) → IsInside q (at + length (part_text part)) text found
     → IsInside q at (part_text part ++ text) (with_front (part_value part ∷ []) found)
 part_inside q at text part (Ok x) h =
     let len = length-append (part_text part) (parts_text h.parts) in record {
-    parts = part ∷ h.parts;
-    behind = h.behind;
-    text_is = ap (λ t. part_text part ++ t) h.text_is ∙ sym (append_assoc (part_text part) (parts_text h.parts) (34 ∷ h.behind));
-    value_is = ap (λ v. part_value part ∷ v) h.value_is;
-    end_is = omega (arith, h.end_is, len) }
+      parts = part ∷ h.parts;
+      behind = h.behind;
+      text_is = ap (λ t. part_text part ++ t) h.text_is ∙ sym (append_assoc (part_text part) (parts_text h.parts) (34 ∷ h.behind));
+      value_is = ap (λ v. part_value part ∷ v) h.value_is;
+      end_is = omega (arith, h.end_is, len);
+    }
 part_inside q at text part (Err (BadCharacter place)) h = halts_behind at text place BeginsControl part h
 part_inside q at text part (Err (OpenText place)) h = halts_behind at text place (EndsOpen q) part h
 part_inside q at text part (Err (BadEscape place)) h = halts_behind at text place BeginsNoEscape part h
@@ -265,8 +285,11 @@ escape_is c = go (c == 34) refl (c == 92) refl (c == 110) refl (c == 114) refl (
 behind_inside : (q at c : ℕ) (text : List ℕ) (o : Option ℕ) → HasEscape c o → IsInside q (at + 2) text (inside q false (at + 2) text)
     → IsInside q at (92 ∷ c ∷ text) (escaped_byte o at (inside q false (at + 2) text))
 behind_inside q at c text None h again = record {
-    parts = []; tail = 92 ∷ c ∷ text; text_is = refl;
-    bad = record { next = c; more = text; tail_is = refl; no_letter = h; place_is = sym (add-zero at) } }
+  parts = [];
+  tail = 92 ∷ c ∷ text;
+  text_is = refl;
+  bad = record { next = c; more = text; tail_is = refl; no_letter = h; place_is = sym (add-zero at) };
+}
 behind_inside q at c text (Some b) h again =
     let found = part_inside q at text (escape h.0) (inside q false (at + 2) text) again in
     let one = subst (λ l. IsInside q at (92 ∷ l ∷ text) (with_front (escaped h.0 ∷ []) (inside q false (at + 2) text))) h.1 found in
@@ -302,22 +325,36 @@ quoted_right : (at : ℕ) (text : List ℕ) (found : Found (List ℕ)) → IsIns
 quoted_right at text (Ok x) h =
     let body : List ℕ = parts_text h.parts in
     let len = length-append body (34 ∷ []) in record {
-    spelling = 34 ∷ body ++ 34 ∷ [];
-    behind = h.behind;
-    text_is = ap (λ t. 34 ∷ t) (h.text_is ∙ sym (append_assoc body (34 ∷ []) h.behind));
-    spells = record { parts = h.parts; text_is = refl; value_is = h.value_is };
-    ends = begins_never (λ b. false) (λ b. refl) h.behind;
-    end_is = omega (arith, h.end_is, len) }
+      spelling = 34 ∷ body ++ 34 ∷ [];
+      behind = h.behind;
+      text_is = ap (λ t. 34 ∷ t) (h.text_is ∙ sym (append_assoc body (34 ∷ []) h.behind));
+      spells = record { parts = h.parts; text_is = refl; value_is = h.value_is };
+      ends = begins_never (λ b. false) (λ b. refl) h.behind;
+      end_is = omega (arith, h.end_is, len);
+    }
 quoted_right at text (Err (BadCharacter place)) h = inr (inr (record {
-    parts = h.parts; control = h.bad.control; more = h.bad.more;
-    text_is = ap (λ t. 34 ∷ t) (h.text_is ∙ ap (λ t. parts_text h.parts ++ t) h.bad.tail_is);
-    below = h.bad.below; place_is = h.bad.place_is }))
+  parts = h.parts;
+  control = h.bad.control;
+  more = h.bad.more;
+  text_is = ap (λ t. 34 ∷ t) (h.text_is ∙ ap (λ t. parts_text h.parts ++ t) h.bad.tail_is);
+  below = h.bad.below;
+  place_is = h.bad.place_is;
+}))
 quoted_right at text (Err (OpenText place)) h = record {
-    parts = h.parts; tail = h.tail; text_is = ap (λ t. 34 ∷ t) h.text_is; tail_is = h.bad.0; place_is = h.bad.1 }
+  parts = h.parts;
+  tail = h.tail;
+  text_is = ap (λ t. 34 ∷ t) h.text_is;
+  tail_is = h.bad.0;
+  place_is = h.bad.1;
+}
 quoted_right at text (Err (BadEscape place)) h = record {
-    parts = h.parts; next = h.bad.next; more = h.bad.more;
-    text_is = ap (λ t. 34 ∷ t) (h.text_is ∙ ap (λ t. parts_text h.parts ++ t) h.bad.tail_is);
-    no_letter = h.bad.no_letter; place_is = h.bad.place_is }
+  parts = h.parts;
+  next = h.bad.next;
+  more = h.bad.more;
+  text_is = ap (λ t. 34 ∷ t) (h.text_is ∙ ap (λ t. parts_text h.parts ++ t) h.bad.tail_is);
+  no_letter = h.bad.no_letter;
+  place_is = h.bad.place_is;
+}
 quoted_right at text (Err (TooWide place)) h = absurd h
 quoted_right at text (Err Memory) h = absurd h
 
@@ -394,15 +431,24 @@ sign_right at text stray = go (sign text) refl
   where
     go : (o : Option Word) → sign text ≡ o → IsRight at text (sign_or_stray at o)
     go None is = inl (record {
-        first = stray.first; more = stray.more; text_is = stray.text_is; no_gap = stray.no_gap; no_letter = stray.no_letter; no_digit = stray.no_digit;
-        no_quote = stray.no_quote; no_sign = is; place_is = refl })
+      first = stray.first;
+      more = stray.more;
+      text_is = stray.text_is;
+      no_gap = stray.no_gap;
+      no_letter = stray.no_letter;
+      no_digit = stray.no_digit;
+      no_quote = stray.no_quote;
+      no_sign = is;
+      place_is = refl;
+    })
     go (Some w) is = record {
-        spelling = fixed_text w;
-        behind = drop (length (fixed_text w)) text;
-        text_is = sign_text text w is;
-        spells = sign_spells w (sign_kind text w is);
-        ends = sign_ends w (sign_kind text w is) (drop (length (fixed_text w)) text) (ap sign (sym (sign_text text w is)) ∙ is);
-        end_is = refl }
+      spelling = fixed_text w;
+      behind = drop (length (fixed_text w)) text;
+      text_is = sign_text text w is;
+      spells = sign_spells w (sign_kind text w is);
+      ends = sign_ends w (sign_kind text w is) (drop (length (fixed_text w)) text) (ap sign (sym (sign_text text w is)) ∙ is);
+      end_is = refl;
+    }
 
 -- ---- any word
 
@@ -417,5 +463,5 @@ front_right at text clear some = go (begins is_letter text) refl (begins is_digi
         let quote : b.first ≡ 34 = quote_is b.first b.passes in
         let is : text ≡ 34 ∷ b.more = b.text_is ∙ ap (λ c. c ∷ b.more) quote in
         subst (IsRight at text) (sym (begins_quote at text g))
-            (subst (λ t. IsRight at t (quoted_word (inside at false (at + 1) (drop 1 t)))) (sym is) (quoted_right at b.more _ (inside_right at false (at + 1) b.more)))
+        (subst (λ t. IsRight at t (quoted_word (inside at false (at + 1) (drop 1 t)))) (sym is) (quoted_right at b.more _ (inside_right at false (at + 1) b.more)))
     go false e false f false g = subst (IsRight at text) (sym (begins_other at text e f g)) (sign_right at text (stray_first text clear some e f g))

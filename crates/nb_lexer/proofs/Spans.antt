@@ -1,5 +1,5 @@
 -- The places of tokens: in order, and where the text may be cut.
-use Rattle.std.proofs.Common.{◌≡◌, ◌≤◌, ◌<◌, ◌+◌, ◌-◌, ℕ, List, [], ◌∷◌, ◌++◌, length, take, drop, map, All, refl, sym, ap, subst, ◌∙◌, length-append, length-drop, arith}
+use Rattle.std.proofs.Common.{◌≡◌, ◌≤◌, ◌+◌, ◌-◌, ℕ, List, [], ◌∷◌, ◌++◌, length, take, drop, map, All, refl, sym, ap, subst, ◌∙◌, length-append, length-drop, arith}
 use Rattle.std.proofs.lemmas.List.{take_at, drop_at, drop-drop}
 use Rattle.std.proofs.lemmas.List.Elements.{All-from_recursion}
 use Rattle.std.proofs.lemmas.Str.{IsCharBoundary-from_drop}
@@ -7,7 +7,7 @@ use Rattle.std.specs.List.{AllByRecursion, slice_range}
 use Rattle.std.specs.Str.{IsUtf8}
 use Rattle.nb_lexer.specs.declared.token.Token.{Token}
 use Rattle.nb_lexer.specs.Characters.{is_gap}
-use Rattle.nb_lexer.specs.Lexes.{Placed, token_of, Skips, Takes, Leads, Lexes, AreTokens, IsSpan, InOrder}
+use Rattle.nb_lexer.specs.Lexes.{Placed, token_of, Skips, Takes, Leads, AreTokens, IsSpan, InOrder}
 use Rattle.nb_lexer.specs.Spelling.{Spells}
 use Rattle.nb_lexer.proofs.Runs.{gap_ascii, utf8_behind_run}
 use Rattle.nb_lexer.proofs.Spelled.{spelling_some, spelling_cut}
@@ -43,9 +43,10 @@ rest_behind : (whole : List ℕ) (at stop : ℕ) (rest front after : List ℕ) �
 rest_behind whole at stop rest front after r split place u =
     let all = rest_len whole at rest r in
     let len : length rest ≡ length front + length after = ap length split ∙ length-append front after in record {
-    rest_is = ap (λ n. drop n whole) place ∙ sym (drop-drop (length front) at whole) ∙ ap (drop (length front)) (r.rest_is ∙ split) ∙ drop_at front after (length front) refl;
-    within = omega arith;
-    utf8 = u }
+      rest_is = ap (λ n. drop n whole) place ∙ sym (drop-drop (length front) at whole) ∙ ap (drop (length front)) (r.rest_is ∙ split) ∙ drop_at front after (length front) refl;
+      within = omega arith;
+      utf8 = u;
+    }
 
 pub skips_rest : (whole : List ℕ) (at : ℕ) (rest : List ℕ) (stop : ℕ) (after : List ℕ) → IsRest whole at rest → Skips at rest stop after → IsRest whole stop after
 skips_rest whole at rest stop after r s = rest_behind whole at stop rest s.gap after r s.text_is s.stop_is (utf8_behind_run is_gap gap_ascii s.gap after s.gap_is (subst IsUtf8 s.text_is r.utf8))
@@ -65,13 +66,14 @@ takes_span whole p rest after r t =
     let behind = takes_rest whole p rest after r t in
     let some = spelling_some p.word t.spelling t.spells in
     let end_is = t.end_is in record {
-    order = omega arith;
-    within = behind.within;
-    start_cut = IsCharBoundary-from_drop whole p.start r.within (subst IsUtf8 (sym r.rest_is) r.utf8);
-    end_cut = IsCharBoundary-from_drop whole p.end behind.within (subst IsUtf8 (sym behind.rest_is) behind.utf8);
-    word = p.word;
-    kind_is = refl;
-    spells = takes_slice whole p rest after r t }
+      order = omega arith;
+      within = behind.within;
+      start_cut = IsCharBoundary-from_drop whole p.start r.within (subst IsUtf8 (sym r.rest_is) r.utf8);
+      end_cut = IsCharBoundary-from_drop whole p.end behind.within (subst IsUtf8 (sym behind.rest_is) behind.utf8);
+      word = p.word;
+      kind_is = refl;
+      spells = takes_slice whole p rest after r t;
+    }
 
 leads_spans : (whole : List ℕ) (at : ℕ) (text : List ℕ) (ps : List Placed) (stop : ℕ) (after : List ℕ) → IsRest whole at text → Leads at text ps stop after → AllByRecursion (IsSpan whole) (map token_of ps)
 leads_spans whole at text [] stop after r l = tt

@@ -1,14 +1,13 @@
 -- What holds of every word's spelling.
-use Rattle.std.proofs.Common.{◌≡◌, ◌≤◌, ◌<◌, ◌+◌, ◌&&◌, ◌==◌, ℕ, zero, suc, Bool, true, false, nat_lt, List, [], ◌∷◌, ◌++◌, length, refl, sym, ap, subst, ◌∙◌, append_assoc, length-append, arith}
-use Rattle.std.proofs.lemmas.Bool.{and_parts, false≢true}
+use Rattle.std.proofs.Common.{◌≡◌, ◌<◌, ℕ, Bool, true, false, List, [], ◌∷◌, ◌++◌, length, ap, subst, ◌∙◌, append_assoc, length-append, arith}
+use Rattle.std.proofs.lemmas.Bool.{false≢true}
 use Rattle.std.proofs.lemmas.Bool.Decides.{nat_tests}
 use Rattle.std.specs.List.{list_all}
 use Rattle.std.specs.Str.{IsUtf8}
 use Rattle.nb_lexer.specs.declared.word.Word.{Word}
-use Rattle.nb_lexer.specs.declared.token.TokenKind.TheVariants as kind
 use Rattle.nb_lexer.specs.Characters.{is_digit, is_letter, is_in_name, is_gap, begins}
-use Rattle.nb_lexer.specs.Words.{fixed_text, kind_of}
-use Rattle.nb_lexer.specs.Spelling.{is_name, SpellsNumber, parts_text, SpellsText, Spells}
+use Rattle.nb_lexer.specs.Words.{fixed_text}
+use Rattle.nb_lexer.specs.Spelling.{parts_text, Spells}
 use Rattle.nb_lexer.proofs.Runs.{digit_ascii, in_name_ascii, letter_no_gap, digit_no_gap, begins-append, begins_not, utf8_behind, utf8_behind_run}
 use Rattle.nb_lexer.proofs.Cases.{Case, a_name, a_number, a_text, a_keyword, a_sign, case_of, name_letter, name_passes, numeral_digit, numeral_passes, keyword_letter, keyword_passes, is_low, sign_begins, sign_low}
 

@@ -1,16 +1,14 @@
 -- What stands between quotes is UTF-8, also without its escapes.
-use Rattle.std.proofs.Common.{◌≡◌, ◌≢◌, ◌≤◌, ◌<◌, ◌^◌, ◌+◌, ◌-◌, ◌/◌, ◌&&◌, ◌||◌, ◌==◌, ℕ, zero, suc, Bool, true, false, cond, not, nat_lt, nat_eq, List, [], ◌∷◌, ◌++◌, length, take, drop, get_or, Option, Some, None, Result, Ok, Err, refl, sym, ap, subst, ◌∙◌, append_assoc, add-zero, arith, rules}
+use Rattle.std.proofs.Common.{◌≡◌, ◌≤◌, ◌<◌, ◌+◌, ◌/◌, ◌==◌, ℕ, zero, suc, Bool, true, false, cond, nat_lt, List, [], ◌∷◌, ◌++◌, length, drop, get_or, Option, Some, None, Ok, Err, refl, sym, ap, subst, ◌∙◌, add-zero, arith}
 use Rattle.std.proofs.lemmas.Bool.{and_parts, false≢true}
 use Rattle.std.proofs.lemmas.Bool.Decides.{nat_tests}
-use Rattle.std.proofs.lemmas.Str.{IsUtf8-nil, IsUtf8-append, IsUtf8-encode, IsUtf8-from_ascii, IsUtf8-drop, IsCharBoundary-after_ascii, inside_one, encode_ascii, len_utf8_bounds, length-encode}
+use Rattle.std.proofs.lemmas.Str.{IsUtf8-nil, IsUtf8-append, IsUtf8-encode, IsUtf8-from_ascii, IsUtf8-drop, IsCharBoundary-after_ascii, encode_ascii, len_utf8_bounds, length-encode}
 use Rattle.std.specs.Str.{IsUtf8}
-use Rattle.std.specs.Char.{IsScalar, encode_utf8}
 use Rattle.std.specs.List.{AllByRecursion}
 use lib.Utf8.{scalar, scalars, encode, encodes, next}
-use Rattle.nb_lexer.specs.declared.fault.LexError.{LexError}
-use Rattle.nb_lexer.specs.declared.fault.LexError.TheVariants.{BadCharacter, OpenText, BadEscape, TooWide, Memory}
+use Rattle.nb_lexer.specs.declared.fault.LexError.TheVariants.{BadCharacter}
 use Rattle.nb_lexer.specs.Characters.{is_quote, begins}
-use Rattle.nb_lexer.specs.Scan.{Found, unescaped, escape_or_bad, escape_at, part_at, with_front, escaped_byte, inside}
+use Rattle.nb_lexer.specs.Scan.{Found, unescaped, with_front, escaped_byte, inside}
 
 -- ---- bytes of characters beyond ASCII
 

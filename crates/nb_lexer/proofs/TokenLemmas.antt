@@ -1,5 +1,5 @@
 -- One token, by what is found at the front.
-use Rattle.std.proofs.Common.{◌≡◌, ◌≢◌, ◌≤◌, ◌<◌, ◌+◌, ◌-◌, ℕ, Bool, true, false, List, [], ◌∷◌, ◌++◌, length, drop, Result, Ok, Err, IfErr, refl, sym, ap, subst, ◌∙◌, length-append, arith}
+use Rattle.std.proofs.Common.{◌≡◌, ◌<◌, ◌+◌, ◌-◌, ℕ, false, List, length, drop, Result, Ok, Err, IfErr, sym, ap, subst, ◌∙◌, length-append, arith}
 use Rattle.std.proofs.lemmas.List.{drop_at}
 use Rattle.std.proofs.lemmas.Result.{err_from_is_err_and}
 use Rattle.std.specs.Result.{IsErrAnd}
@@ -11,7 +11,6 @@ use Rattle.nb_lexer.specs.declared.fault.LexError.{LexError}
 use Rattle.nb_lexer.specs.declared.fault.LexError.TheVariants.{BadCharacter, OpenText, BadEscape, TooWide, Memory}
 use Rattle.nb_lexer.specs.Characters.{is_gap, begins}
 use Rattle.nb_lexer.specs.Words.{kind_of}
-use Rattle.nb_lexer.specs.Lexes.{Placed, token_of}
 use Rattle.nb_lexer.specs.Scan.{Found, front, kind_found, Gives, Stands, FaultsAt}
 use Rattle.nb_lexer.proofs.Spelled.{spelling_some, spelling_cut}
 use Rattle.nb_lexer.proofs.Sound.{Spelled, IsRight, front_right}
@@ -30,7 +29,8 @@ stands at text w kind end is u h =
       behind_is = ap (drop (end - at)) h.text_is ∙ drop_at h.spelling h.behind (end - at) taken;
       further = omega arith;
       within = omega arith;
-      utf8 = spelling_cut w h.spelling h.behind h.spells (subst IsUtf8 h.text_is u) }
+      utf8 = spelling_cut w h.spelling h.behind h.spells (subst IsUtf8 h.text_is u);
+    }
 
 pub token_stands : (at : ℕ) (text : List ℕ) (kind : TokenKind) (end : ℕ) → IsUtf8 text → 0 < length text → begins is_gap text ≡ false → kind_found (front at text) ≡ Ok (kind, end)
     → Stands at text (record { kind = kind; start = at; end = end })

@@ -1,5 +1,5 @@
 -- The words of tokens.
-use Rattle.std.proofs.Common.{◌≡◌, ◌+◌, ◌-◌, ◌<◌, ◌≤◌, ℕ, Bool, true, false, List, [], ◌∷◌, ◌++◌, length, take, drop, get_or, All, map, Option, Some, None, IsSome, is_some, option_map, Result, Ok, Err, IfOk, refl, sym, ap, subst, ◌∙◌, append-nil, arith}
+use Rattle.std.proofs.Common.{◌≡◌, ◌+◌, ◌<◌, ◌≤◌, ℕ, List, [], ◌∷◌, ◌++◌, length, take, get_or, All, map, Option, Some, IsSome, is_some, option_map, Result, Ok, Err, IfOk, refl, sym, ap, subst, ◌∙◌, append-nil, arith}
 use Rattle.std.proofs.lemmas.List.{take_more, take_all}
 use Rattle.std.specs.List.{slice_range}
 use Rattle.std.specs.Str.{IsUtf8}
@@ -8,9 +8,9 @@ use Rattle.nb_lexer.specs.declared.token.Token.{Token}
 use Rattle.nb_lexer.specs.declared.token.TokenKind.TheVariants as kind
 use Rattle.nb_lexer.specs.Words.{fixed_text, keyword, sign, kind_of}
 use Rattle.nb_lexer.specs.Spelling.{Spells}
-use Rattle.nb_lexer.specs.Lexes.{Placed, word_of, token_of, Skips, Takes, Leads, Lexes, Reads, AreTokens, IsSpan}
-use Rattle.nb_lexer.specs.Scan.{Found, front}
-use Rattle.nb_lexer.proofs.FixedLemmas.{keyword_of, keyword_spells, sign_spells}
+use Rattle.nb_lexer.specs.Lexes.{Placed, word_of, token_of, Leads, Reads, AreTokens, IsSpan}
+use Rattle.nb_lexer.specs.Scan.{front}
+use Rattle.nb_lexer.proofs.FixedLemmas.{keyword_of}
 use Rattle.nb_lexer.proofs.Cases.{Case, a_name, a_number, a_text, a_keyword, a_sign, case_of}
 use Rattle.nb_lexer.proofs.Complete.{front_complete, sign_of}
 use Rattle.nb_lexer.proofs.Spans.{IsRest, skips_rest, takes_rest, takes_slice, tokens_spans}
@@ -110,10 +110,11 @@ pub worded_reads : (text : List ℕ) (ts : List Token) (ws : List Word) → IsUt
 worded_reads text ts ws u h w =
     let r = h.1 in
     let whole : IsRest text 0 text = record { rest_is = refl; within = omega arith; utf8 = u } in record {
-    placed = r.placed;
-    lexes = r.lexes;
-    tokens_are = r.tokens_are;
-    words_are = leads_words text 0 text r.placed (length text) [] ws whole r.lexes (subst (λ us. Worded text us ws) (sym r.tokens_are) w) }
+      placed = r.placed;
+      lexes = r.lexes;
+      tokens_are = r.tokens_are;
+      words_are = leads_words text 0 text r.placed (length text) [] ws whole r.lexes (subst (λ us. Worded text us ws) (sym r.tokens_are) w);
+    }
 
 -- ---- the code's loop
 

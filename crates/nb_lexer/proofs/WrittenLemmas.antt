@@ -1,18 +1,17 @@
 -- Written words are read as these words.
-use Rattle.std.proofs.Common.{◌≡◌, ◌≢◌, ◌≤◌, ◌<◌, ◌+◌, ◌-◌, ◌^◌, ◌&&◌, ◌||◌, ◌==◌, ◌⊎◌, inl, inr, ℕ, ℤ, pos, zero, suc, Bool, true, false, cond, not, nat_lt, nat_eq, List, [], ◌∷◌, ◌++◌, length, map, get_or, refl, sym, ap, subst, ◌∙◌, append_assoc, append-nil, add-zero, zero-add, length-append, arith}
-use Rattle.std.proofs.lemmas.Bool.{and_parts, and_from, or_cases, false≢true, not-true, cases_lt}
+use Rattle.std.proofs.Common.{◌≡◌, ◌<◌, ◌+◌, ◌^◌, ◌==◌, inl, inr, ℕ, pos, Bool, true, false, cond, nat_lt, List, [], ◌∷◌, ◌++◌, length, map, get_or, refl, sym, ap, subst, ◌∙◌, append_assoc, zero-add, length-append, arith}
+use Rattle.std.proofs.lemmas.Bool.{and_parts, and_from, not-true, cases_lt}
 use Rattle.std.proofs.lemmas.Bool.Decides.{nat_tests}
 use Rattle.std.proofs.lemmas.Fmt.{decimal_is_IsNumeral, decimal_digit, first_decimal}
 use Rattle.std.specs.Fmt.{decimal}
-use Rattle.std.specs.List.{list_all, AllByRecursion}
+use Rattle.std.specs.List.{list_all}
 use Rattle.std.specs.Str.{bytes_eq}
-use Rattle.std.specs.Str.Parse.{AllDigits, digits_value}
+use Rattle.std.specs.Str.Parse.{digits_value}
 use Rattle.nb_lexer.specs.declared.word.Word.{Word}
 use Rattle.nb_lexer.specs.declared.word.Word.TheVariants as word
 use Rattle.nb_lexer.specs.Characters.{is_digit, is_gap, begins}
-use Rattle.nb_lexer.specs.Words.{fixed_text}
 use Rattle.nb_lexer.specs.Spelling.{is_first_digit, is_numeral, too_wide, SpellsNumber, is_plain, Escape, quote, backslash, line_feed, carriage_return, tab, Part, plain, escape, part_text, part_value, parts_text, parts_value, SpellsText, Spells, goes_on, Ends}
-use Rattle.nb_lexer.specs.Lexes.{Placed, word_of, token_of, Skips, Takes, Leads, Reads, HasWords}
+use Rattle.nb_lexer.specs.Lexes.{Placed, word_of, token_of, Skips, Takes, Leads, HasWords}
 use Rattle.nb_lexer.specs.Written as w
 use Rattle.nb_lexer.specs.Written.{escaped, word_text, is_quotable, IsWritable, Spaced, spaced_word, spaced_text, IsApart, AreApart, AreWritable}
 use Rattle.nb_lexer.proofs.FaultLemmas.{or_right}
@@ -34,16 +33,18 @@ decimal_numeral : (n : ℕ) → n < 2 ^ 64 → is_numeral (decimal n) ≡ true
 decimal_numeral n small =
     let all : list_all is_digit (decimal n) ≡ true = own.from (decimal n) (decimal_is_IsNumeral n small).0.1 in
     elim (cases_lt 0 n) [
-      inl some ↦ or_right (bytes_eq (decimal n) (48 ∷ [])) _ (and_from _ _ (decimal_first n some small (decimal n) refl all) all)
-    | inr none ↦ let is : n ≡ 0 = omega arith in ap (λ k. is_numeral (decimal k)) is ∙ ap is_numeral (decimal_digit 0 (omega arith)) ]
+      | inl some ↦ or_right (bytes_eq (decimal n) (48 ∷ [])) _ (and_from _ _ (decimal_first n some small (decimal n) refl all) all)
+      | inr none ↦ let is : n ≡ 0 = omega arith in ap (λ k. is_numeral (decimal k)) is ∙ ap is_numeral (decimal_digit 0 (omega arith))
+    ]
 
 number_spells : (k : ℕ) → k < too_wide → SpellsNumber (pos k) (decimal k)
 number_spells k fits =
     let small : k < 2 ^ 64 = omega arith in
     let value = (decimal_is_IsNumeral k small).1 in record {
-    numeral = decimal_numeral k small;
-    value = ap pos (sym value);
-    fits = subst (λ n. n < too_wide) (sym value) fits }
+      numeral = decimal_numeral k small;
+      value = ap pos (sym value);
+      fits = subst (λ n. n < too_wide) (sym value) fits;
+    }
 
 -- ---- quoted texts
 
@@ -58,6 +59,7 @@ one_written b ok = go (b == 34) refl (b == 92) refl (b == 10) refl (b == 13) ref
   where
     five : (e : Escape) → part_text (escape e) ≡ w.escape b → part_value (escape e) ≡ b → OneWritten b
     five e t v = record { part = escape e; text_is = t; value_is = v }
+
     go : (q : Bool) → (b == 34) ≡ q → (s : Bool) → (b == 92) ≡ s → (l : Bool) → (b == 10) ≡ l → (r : Bool) → (b == 13) ≡ r → (t : Bool) → (b == 9) ≡ t → OneWritten b
     go true e s f l g r h t k = let is : 34 ≡ b = grind (arith, nat_tests) in five quote (ap w.escape is) is
     go false e true f l g r h t k = let is : 92 ≡ b = grind (arith, nat_tests) in five backslash (ap w.escape is) is
@@ -80,16 +82,18 @@ all_written (b ∷ x) ok =
     let both = and_parts (is_quotable b) (list_all is_quotable x) ok in
     let one = one_written b both.0 in
     let more = all_written x both.1 in record {
-    parts = one.part ∷ more.parts;
-    text_is = ap (λ t. t ++ parts_text more.parts) one.text_is ∙ ap (λ t. w.escape b ++ t) more.text_is;
-    value_is = ap (λ v. v ∷ parts_value more.parts) one.value_is ∙ ap (λ vs. b ∷ vs) more.value_is }
+      parts = one.part ∷ more.parts;
+      text_is = ap (λ t. t ++ parts_text more.parts) one.text_is ∙ ap (λ t. w.escape b ++ t) more.text_is;
+      value_is = ap (λ v. v ∷ parts_value more.parts) one.value_is ∙ ap (λ vs. b ∷ vs) more.value_is;
+    }
 
 quoted_spells : (x : List ℕ) → list_all is_quotable x ≡ true → SpellsText x (w.quoted_text x)
 quoted_spells x ok =
     let all = all_written x ok in record {
-    parts = all.parts;
-    text_is = ap (λ t. 34 ∷ t ++ 34 ∷ []) (sym all.text_is);
-    value_is = all.value_is }
+      parts = all.parts;
+      text_is = ap (λ t. 34 ∷ t ++ 34 ∷ []) (sym all.text_is);
+      value_is = all.value_is;
+    }
 
 -- ---- any word
 
@@ -157,22 +161,27 @@ written_from at (s ∷ ws) ok apart =
     let stop : end + length (spaced_text ws) ≡ at + length (spaced_text (s ∷ ws)) = omega arith in
     let skip : Skips at (spaced_text (s ∷ ws)) start (text ++ spaced_text ws) = record { gap = gap; gap_is = gap_passes s.space; text_is = append_assoc gap text (spaced_text ws); stop_is = refl } in
     let take : Takes p (text ++ spaced_text ws) (spaced_text ws) = record { spelling = text; spells = written_spells s.word ok.0; ends = spaced_ends s.word ws s apart ok.1; text_is = refl; end_is = refl } in record {
-    placed = p ∷ rest.placed;
-    leads = (text ++ spaced_text ws, spaced_text ws, skip, take, subst (λ n. Leads end (spaced_text ws) rest.placed n []) stop rest.leads);
-    words_are = ap (λ vs. s.word ∷ vs) rest.words_are }
+      placed = p ∷ rest.placed;
+      leads = (text ++ spaced_text ws, spaced_text ws, skip, take, subst (λ n. Leads end (spaced_text ws) rest.placed n []) stop rest.leads);
+      words_are = ap (λ vs. s.word ∷ vs) rest.words_are;
+    }
   where
     apart_more : (s : Spaced) (ws : List Spaced) → AreApart (s ∷ ws) → AreApart ws
     apart_more s [] a = tt
     apart_more s (t ∷ ws) a = a.1
+
     gap_passes : (b : Bool) → list_all is_gap (cond b (32 ∷ []) []) ≡ true
     gap_passes true = refl
     gap_passes false = refl
 
 pub written_words : (ws : List Spaced) → AreWritable ws → AreApart ws → HasWords (spaced_text ws) (map spaced_word ws)
 written_words ws ok apart =
-    let from = written_from 0 ws ok apart in
-    (map token_of from.placed, record {
-      placed = from.placed;
-      lexes = subst (λ n. Leads 0 (spaced_text ws) from.placed n []) (zero-add (length (spaced_text ws))) from.leads;
-      tokens_are = refl;
-      words_are = from.words_are })
+    let from = written_from 0 ws ok apart in (
+      map token_of from.placed,
+      record {
+        placed = from.placed;
+        lexes = subst (λ n. Leads 0 (spaced_text ws) from.placed n []) (zero-add (length (spaced_text ws))) from.leads;
+        tokens_are = refl;
+        words_are = from.words_are;
+      },
+    )

@@ -39,8 +39,8 @@ numeral_len text = if begins (λ b. b == 48) text then 1 else prefix_len is_digi
 abbrev pub number_at : ℕ → List ℕ → Found Word
 number_at at text =
     if nat_lt (digits_value 10 (take (numeral_len text) text)) too_wide then
-        (if begins is_in_name (drop (numeral_len text) text) then Err (BadCharacter (at + numeral_len text))
-        else Ok (word.Number (pos (digits_value 10 (take (numeral_len text) text))), at + numeral_len text))
+    (if begins is_in_name (drop (numeral_len text) text) then Err (BadCharacter (at + numeral_len text))
+    else Ok (word.Number (pos (digits_value 10 (take (numeral_len text) text))), at + numeral_len text))
     else Err (TooWide at)
 
 -- ---- quoted texts

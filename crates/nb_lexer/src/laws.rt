@@ -13,12 +13,12 @@ pub fn law_of_tokens()
     ensures one { (text : List ℕ) (ts us : List Token) (ws vs : List Word) → Reads text ts ws → Reads text us vs
         → (ts ≡ us) × (ws ≡ vs) }
     ensures one_fault { (text : List ℕ) (e g : LexError) → IsFault text e → IsFault text g → e ≡ g }
-    ensures never_both { (text : List ℕ) (ts : List Token) (e : LexError) → AreTokens text ts → IsFault text e → ⊥ }
-{
-}
+    ensures never_both { (text : List ℕ) (ts : List Token) (e : LexError) → AreTokens text ts → IsFault text e
+        → ⊥ }
+{}
 
-/// A law, with nothing to run: words that are written with spaces, so that none goes on with the one before it, are the words of that text.
+/// A law, with nothing to run: words that are written so that none goes on with the one before it are the words
+/// of what is written.
 pub fn law_of_written_words()
     ensures { (ws : List Spaced) → AreWritable ws → AreApart ws → HasWords (spaced_text ws) (map spaced_word ws) }
-{
-}
+{}

@@ -7,7 +7,9 @@ ghost use Rattle.nb_lexer.specs.Scan.{Gives, Stands, FaultsAt, kind_found, front
 ghost use Rattle.nb_lexer.specs.Lexes.{AreTokens, IsSpan, InOrder};
 ghost use Rattle.nb_lexer.specs.Faults.{Refuses, IsFault, UnlessMemory};
 
-use crate::characters::{begins_with_digit, begins_with_letter, begins_with_quote, gap_len, name_len};
+use crate::characters::{
+    begins_with_digit, begins_with_letter, begins_with_quote, gap_len, name_len,
+};
 use crate::fault::LexError;
 use crate::fixed::{keyword, sign};
 use crate::number::number_at;
@@ -18,8 +20,8 @@ use std::alloc::Global;
 
 /// The tokens of a text, from left to right, or its first fault.
 ///
-/// Each token's text is the part of the source from its `start` up to below its `end`, where it may be cut. It takes time and memory
-/// linear in the text's bytes, and reads nothing behind a fault.
+/// Each token's text is the part of the source from its `start` up to below its `end`, where it may be cut.
+/// It takes time and memory linear in the text's bytes, and reads nothing behind a fault.
 pub fn tokens(alloc: Global, text: &str) -> Result<Tokens, LexError>
     ensures found { IfOk result (AreTokens text.now) }
     ensures spans { IfOk result (All (IsSpan text.now)) }

@@ -46,7 +46,8 @@ fn numeral_len(text: &[u8]) -> usize
 fn value_of(digits: &[u8]) -> Option<i64>
     requires all { list_all is_digit digits.now ≡ true }
     requires some { 0 < length digits.now }
-    ensures { result ≡ (if nat_lt (digits_value 10 digits.now) too_wide then Some (pos (digits_value 10 digits.now)) else None) }
+    ensures { result ≡ (if nat_lt (digits_value 10 digits.now) too_wide then Some (pos (digits_value 10 digits.now))
+        else None) }
 {
     match str::from_utf8(digits) {
         Ok(text) => text.parse::<i64>().ok(),

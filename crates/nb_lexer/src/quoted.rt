@@ -36,7 +36,8 @@ fn escape_at(quote: usize, at: usize, text: &[u8]) -> Result<Option<(u8, usize)>
     }
 }
 
-/// The byte that the part of a quoted text at the place `at` stands for, and the place behind it; or `None` at the closing quote.
+/// The byte that the part of a quoted text at the place `at` stands for, and the place behind it; or `None` at the
+/// closing quote.
 fn part_at(quote: usize, at: usize, text: &[u8]) -> Result<Option<(u8, usize)>, LexError>
     requires { at + length text.now < 2 ^ 63 }
     ensures value { Gives result (part_at quote at text.now) }
@@ -52,7 +53,8 @@ fn part_at(quote: usize, at: usize, text: &[u8]) -> Result<Option<(u8, usize)>, 
     }
 }
 
-/// The bytes that stand behind an opening quote at the place `quote`, without escapes, and the place behind the closing quote.
+/// The bytes that stand behind an opening quote at the place `quote`, without escapes, and the place behind the closing
+/// quote.
 fn value_at(alloc: Global, quote: usize, text: &[u8]) -> Result<(Vec<u8>, usize), LexError>
     requires { quote + 1 + length text.now < 2 ^ 63 }
     ensures { GivesBy (λ x. (x.0.items, x.1)) result (inside quote false (quote + 1) text.now) }

@@ -23,14 +23,17 @@ fn texts() -> [(&'static str, &'static str); 16] {
         ("<==", "sign 0 2;sign 2 3;"),
         ("!==>=<", "sign 0 2;sign 2 3;sign 3 5;sign 5 6;"),
         ("&&||", "sign 0 2;sign 2 4;"),
-        ("+-*/%()[]", "sign 0 1;sign 1 2;sign 2 3;sign 3 4;sign 4 5;sign 5 6;sign 6 7;sign 7 8;sign 8 9;"),
-        ("{},:;.?", "sign 0 1;sign 1 2;sign 2 3;sign 3 4;sign 4 5;sign 5 6;sign 6 7;"),
+        (
+            "+-*/%()[]",
+            "sign 0 1;sign 1 2;sign 2 3;sign 3 4;sign 4 5;sign 5 6;sign 6 7;sign 7 8;sign 8 9;",
+        ),
+        (
+            "{},:;.?",
+            "sign 0 1;sign 1 2;sign 2 3;sign 3 4;sign 4 5;sign 5 6;sign 6 7;",
+        ),
         ("\"\"a\"b\"", "quoted  0 2;name 2 3;quoted b 3 6;"),
         ("\"\u{e9}\" x", "quoted \u{e9} 0 4;name 5 6;"),
-        (
-            "\"\\\"\\\\\\n\\r\\t\"",
-            "quoted \"\\\n\r\t 0 12;",
-        ),
+        ("\"\\\"\\\\\\n\\r\\t\"", "quoted \"\\\n\r\t 0 12;"),
     ]
 }
 
@@ -62,8 +65,8 @@ fn faults() -> [(&'static str, LexError); 20] {
 
 fn keywords() -> [&'static str; 14] {
     [
-        "let", "if", "else", "while", "for", "of", "yield", "return", "throw", "cleanup", "fetch", "true", "false",
-        "null",
+        "let", "if", "else", "while", "for", "of", "yield", "return", "throw", "cleanup", "fetch",
+        "true", "false", "null",
     ]
 }
 
@@ -161,7 +164,8 @@ fn gives_the_words(rt: HostRuntime) -> Result<(), Fail> {
 
 fn signs() -> [&'static str; 26] {
     [
-        "+", "-", "*", "/", "%", "(", ")", "[", "]", "{", "}", ",", ":", ";", ".", "=", "==", "!=", "<", "<=", ">", ">=", "&&", "||", "!", "?"
+        "+", "-", "*", "/", "%", "(", ")", "[", "]", "{", "}", ",", ":", ";", ".", "=", "==", "!=",
+        "<", "<=", ">", ">=", "&&", "||", "!", "?",
     ]
 }
 
@@ -227,7 +231,11 @@ fn only_word(alloc: Global, text: &str) -> Result<&'static str, Fail> {
         return Err("no single word".into());
     };
     let keyword = keyword_text(word);
-    Ok(if keyword.is_empty() { sign_text(word) } else { keyword })
+    Ok(if keyword.is_empty() {
+        sign_text(word)
+    } else {
+        keyword
+    })
 }
 
 #[test]

@@ -8,4 +8,4 @@ returns-clause-found c = token_stands c.args.at c.args.text.now c.in_ok-kind.kin
 pub returns-in_err-kind-clause-fault : goal.returns-in_err-kind-clause-fault
 returns-in_err-kind-clause-fault c =
     handed (FaultsAt c.args.at c.args.text.now) c.from_residual.result c.in_err-kind.field-0.0 c.from_residual.ensures.1
-        (token_faults c.args.at c.args.text.now c.in_err-kind.field-0.0 c.requires.some c.requires.clear c.in_err-kind.ensures)
+    (token_faults c.args.at c.args.text.now c.in_err-kind.field-0.0 c.requires.some c.requires.clear c.in_err-kind.ensures)

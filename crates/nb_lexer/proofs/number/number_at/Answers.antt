@@ -1,4 +1,4 @@
-use Rattle.std.proofs.Common.{◌≡◌, take, true, sym, ap, ◌∙◌}
+use Rattle.std.proofs.Common.{take, ap, ◌∙◌}
 use Rattle.std.specs.List.{list_all}
 use Rattle.nb_lexer.specs.Characters.{is_digit}
 use Rattle.nb_lexer.proofs.NumberLemmas.{numeral_digits}

@@ -9,7 +9,7 @@ word_of-requires c =
 pub loop-token-preserved : goal.loop-token-preserved
 loop-token-preserved c =
     item_worded c.args.text.now c.args.tokens.now c.as_slice-token-items.result.now c.loop-token.token-index c.token-item.result c.in_ok-word_of.field-0 c.loop-token.found c.push.new.self
-        c.as_slice-token-items.ensures c.loop-token-test.true c.token-item.is c.loop-token.invariant c.in_ok-word_of.ensures c.in_ok-push.ensures.ok
+    c.as_slice-token-items.ensures c.loop-token-test.true c.token-item.is c.loop-token.invariant c.in_ok-word_of.ensures c.in_ok-push.ensures.ok
 
 pub returns : goal.returns
 returns c =
