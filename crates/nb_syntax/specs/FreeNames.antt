@@ -72,14 +72,14 @@ abbrev pub without : List Name → List Name → List Name
 without scope [] = []
 without scope (n ∷ ns) = if has_name n scope then without scope ns else n ∷ without scope ns
 
--- What a statement uses, which are the occurrences outside the scopes that are in it, and the names that it makes
--- for the statements after it.
+-- The names that a statement uses, which are its occurrences outside the scopes inside it, and the names that it
+-- makes for the statements after it.
 pub record Uses : Type 0 where
   pub names : List Name
   pub makes : List Name
 
-abbrev pub uses : List Name → Uses
-uses names = record { names = names; makes = [] }
+abbrev pub uses_only : List Name → Uses
+uses_only names = record { names = names; makes = [] }
 
 abbrev pub other_uses : Option (List Name) → List Name
 other_uses None = []
@@ -92,14 +92,14 @@ in_order (s ∷ ss) = s.names ++ without s.makes (in_order ss)
 
 abbrev pub stmt_step : level.Stmt-F Uses (List Name) (List Name) → Uses
 stmt_step (level.Let n e) = record { names = occurrences e; makes = n ∷ [] }
-stmt_step (level.Assign n e) = uses (occurrences e)
-stmt_step (level.If arms other) = uses (joined arms ++ other_uses other)
-stmt_step (level.While e b) = uses (occurrences e ++ b)
-stmt_step (level.For n e b) = uses (occurrences e ++ without (n ∷ []) b)
-stmt_step (level.Yield e) = uses (occurrences e)
-stmt_step (level.Return e) = uses (occurrences e)
-stmt_step (level.Throw e) = uses (occurrences e)
-stmt_step (level.Cleanup e) = uses (occurrences e)
+stmt_step (level.Assign n e) = uses_only (occurrences e)
+stmt_step (level.If arms other) = uses_only (joined arms ++ other_uses other)
+stmt_step (level.While e b) = uses_only (occurrences e ++ b)
+stmt_step (level.For n e b) = uses_only (occurrences e ++ without (n ∷ []) b)
+stmt_step (level.Yield e) = uses_only (occurrences e)
+stmt_step (level.Return e) = uses_only (occurrences e)
+stmt_step (level.Throw e) = uses_only (occurrences e)
+stmt_step (level.Cleanup e) = uses_only (occurrences e)
 
 abbrev pub arm_step : level.Arm-F Uses (List Name) (List Name) → List Name
 arm_step a = occurrences a.test ++ a.body

@@ -1,4 +1,4 @@
-//! The trees of cells: their copies, their printed text and their free names.
+//! The trees of cells: copies, printed text, free names, and which cells yield, fetch or add.
 #![tactic(auto)]
 
 #[cfg(test)]
