@@ -29,7 +29,7 @@ use Rattle.nb_eval.specs.declared.stop.Stop.TheVariants as stops
 use Rattle.nb_eval.specs.Locals.{name_value, place}
 use Rattle.nb_eval.specs.Run.{Run, Out, Called, ◌>>=◌, ◌>>◌, pure, stop, lift, charge, tick, done, read, as_truth, truth_of, items_of, within_depth, ask, ask_at, ask_text, yielded, cleaned, thrown, keep, assign, assign_at, cut_to, scoped}
 use Rattle.nb_eval.specs.Operate.{sum_step, product_step, summed, multiplied, compared, signed, field_of, part_of}
-use Rattle.nb_eval.specs.Evaluation.{Did, Acts, eval, member, path_part, operand, expr_step, path_step, member_step, operand_step, parts, members, chain_from, path_from, either, conjunction, disjunction, truth, comparison, call, act, arm, act_block, stmt_step, arm_step, block_step, or_skip, ran, choose, turns, loop, each, in_order, eval_body}
+use Rattle.nb_eval.specs.Evaluation.{Did, Acts, eval, member, path_part, operand, expr_step, path_step, member_step, operand_step, parts, members, chain_from, path_from, either, conjunction, disjunction, truth, comparison, test_of, chosen_value, call, act, arm, act_block, stmt_step, arm_step, block_step, or_skip, ran, choose, turns, loop, each, in_order, eval_body}
 
 abbrev pub Claim : Type 1
 Claim = (A : Type 0) → State → Out A → Out A → Type 0
@@ -205,9 +205,6 @@ module _ (plain : Bool) (g g' : Segment) (Q S : Claim) (c : Closed plain g g' Q 
   both_product_step : (sign : Sign) (v w : Value) → Both Value (product_step sign v w) (product_step sign v w)
   both_product_step sign v w = weak Value (product_step sign v w) (product_step sign v w) (strong_lift (multiplied sign v w))
 
-  both_comparison : (sign : Sign) (v w : Value) → Both Value (comparison sign v w) (comparison sign v w)
-  both_comparison sign v w = weak Value (comparison sign v w) (comparison sign v w) (strong_lift (compared sign v w))
-
   abbrev PathSteps : Type 0
   PathSteps = List (Proved PathStep BothStep)
 
@@ -295,18 +292,24 @@ module _ (plain : Bool) (g g' : Segment) (Q S : Claim) (c : Closed plain g g' Q 
       strong_first Value Value (eval g e.0) (eval g' e.0) (λ v. chain_from sum_step v (map (operand g) (map bare_of os))) (λ v. chain_from sum_step v (map (operand g') (map bare_of os)))
       (e.1 (left_of (expr_plain e.0) more h)) (both_chain sum_step both_sum_step os (right_of (expr_plain e.0) more h)) s
   at_layer (layer.Compare sign a b) h s =
-      strong_first Value Value (eval g a.0) (eval g' a.0) (λ v. eval g b.0 >>= comparison sign v) (λ v. eval g' b.0 >>= comparison sign v)
+      let make : Value → Value → Did = λ v w. lift (compared sign v w) in
+      strong_first Value Value (eval g a.0) (eval g' a.0) (λ v. comparison sign v (eval g b.0)) (λ v. comparison sign v (eval g' b.0))
       (a.1 (left_of (expr_plain a.0) (expr_plain b.0) h))
-      (λ v. both_then Value Value (eval g b.0) (eval g' b.0) (comparison sign v) (comparison sign v) (weak_expr b.0 b.1 (right_of (expr_plain a.0) (expr_plain b.0) h)) (both_comparison sign v)) s
+      (λ v. both_then Value Value (eval g b.0 >>= make v) (eval g' b.0 >>= make v) done done
+      (both_then Value Value (eval g b.0) (eval g' b.0) (make v) (make v) (weak_expr b.0 b.1 (right_of (expr_plain a.0) (expr_plain b.0) h)) (λ w. both_lift Value (compared sign v w)))
+      both_done) s
   at_layer (layer.And xs) h s = strong_last Bool Value (conjunction (map (eval g) (map bare_of xs))) (conjunction (map (eval g') (map bare_of xs))) truth truth (both_conjunction xs h) (λ b. strong_done (V.Bool b)) s
   at_layer (layer.Or xs) h s = strong_last Bool Value (disjunction (map (eval g) (map bare_of xs))) (disjunction (map (eval g') (map bare_of xs))) truth truth (both_disjunction xs h) (λ b. strong_done (V.Bool b)) s
   at_layer (layer.Choose t a b) h s =
       let hab : IsAllowed (expr_plain a.0 && expr_plain b.0) = right_of (expr_plain t.0) (expr_plain a.0 && expr_plain b.0) h in
-      strong_last Value Value (eval g t.0 >>= as_truth (codes "?") >>= either (eval g a.0) (eval g b.0)) (eval g' t.0 >>= as_truth (codes "?") >>= either (eval g' a.0) (eval g' b.0)) done done
-      (both_then Bool Value (eval g t.0 >>= as_truth (codes "?")) (eval g' t.0 >>= as_truth (codes "?")) (either (eval g a.0) (eval g b.0)) (either (eval g' a.0) (eval g' b.0))
+      let here = either (eval g a.0) (eval g b.0) in
+      let here' = either (eval g' a.0) (eval g' b.0) in
+      strong_last Bool Value (test_of (eval g t.0)) (test_of (eval g' t.0)) (λ x. chosen_value (here x)) (λ x. chosen_value (here' x))
       (both_test (codes "?") t.0 t.1 (left_of (expr_plain t.0) (expr_plain a.0 && expr_plain b.0) h))
-      (both_either Value (eval g a.0) (eval g' a.0) (eval g b.0) (eval g' b.0) (weak_expr a.0 a.1 (left_of (expr_plain a.0) (expr_plain b.0) hab)) (weak_expr b.0 b.1 (right_of (expr_plain a.0) (expr_plain b.0) hab))))
-      strong_done s
+      (λ x. strong_last Value Value (here x) (here' x) done done
+      (both_either Value (eval g a.0) (eval g' a.0) (eval g b.0) (eval g' b.0) (weak_expr a.0 a.1 (left_of (expr_plain a.0) (expr_plain b.0) hab)) (weak_expr b.0 b.1 (right_of (expr_plain a.0) (expr_plain b.0) hab)) x)
+      strong_done)
+      s
 
   abbrev StepLayer : Type 0
   StepLayer = layer.PathStep-F (Proved Expr BothExpr) (Proved PathStep BothStep) (Proved Member BothMember) (Proved Operand BothOperand)

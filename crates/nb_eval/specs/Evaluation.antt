@@ -102,8 +102,15 @@ fetch given e = e >>= ask given >>= done
 abbrev pub unary : Sign → Did → Did
 unary sign e = e >>= (λ v. lift (signed sign v)) >>= done
 
-abbrev pub comparison : Sign → Value → Value → Did
-comparison sign v w = lift (compared sign v w) >>= done
+-- the value at the left, with the part at the right
+abbrev pub comparison : Sign → Value → Did → Did
+comparison sign v e = e >>= (λ w. lift (compared sign v w)) >>= done
+
+abbrev pub test_of : Did → Run Bool
+test_of e = e >>= as_truth (codes "?")
+
+abbrev pub chosen_value : Did → Did
+chosen_value e = e >>= done
 
 -- an error for want of fuel comes of a charge that fails
 abbrev pub unpaid : ErrorKind → State → State
@@ -114,6 +121,9 @@ unpaid kind s = s
 abbrev pub call : Function → List Value → Did
 call function vs = lift (called function vs) >>= done
 
+abbrev pub call_of : Function → List Did → Did
+call_of function xs = parts [] xs >>= call function
+
 module _ (given : Segment) where
   abbrev pub expr_step : layer.Expr-F Did (Value → Did) (List ℕ × Did) (Sign × Did) → Did
   expr_step (layer.Int n) = done (V.Int n)
@@ -123,16 +133,16 @@ module _ (given : Segment) where
   expr_step (layer.Name n) = name_value_of given n
   expr_step (layer.List xs) = list_of xs
   expr_step (layer.Rec ms) = record_of ms
-  expr_step (layer.Call f xs) = parts [] xs >>= call f
+  expr_step (layer.Call f xs) = call_of f xs
   expr_step (layer.Fetch e) = fetch given e
   expr_step (layer.Path e steps) = e >>= (λ v. path_from v steps)
   expr_step (layer.Unary sign e) = unary sign e
   expr_step (layer.Product e more) = e >>= (λ v. chain_from product_step v more)
   expr_step (layer.Sum e more) = e >>= (λ v. chain_from sum_step v more)
-  expr_step (layer.Compare sign a b) = a >>= (λ v. b >>= comparison sign v)
+  expr_step (layer.Compare sign a b) = a >>= (λ v. comparison sign v b)
   expr_step (layer.And xs) = all_true xs
   expr_step (layer.Or xs) = some_true xs
-  expr_step (layer.Choose c a b) = c >>= as_truth (codes "?") >>= either a b >>= done
+  expr_step (layer.Choose c a b) = test_of c >>= (λ t. chosen_value (either a b t))
 
   abbrev pub member_step : layer.Member-F Did (Value → Did) (List ℕ × Did) (Sign × Did) → List ℕ × Did
   member_step m = (m.key, m.value)

@@ -91,6 +91,22 @@ impl Build {
         Ok(Expr::Product(self.boxed(a)?, self.operand(sign, b)?))
     }
 
+    pub fn plus(self, a: Made<Expr>, b: Made<Expr>) -> Made<Expr> {
+        self.sum(a, Sign::Plus, b)
+    }
+
+    pub fn minus(self, a: Made<Expr>, b: Made<Expr>) -> Made<Expr> {
+        self.sum(a, Sign::Minus, b)
+    }
+
+    pub fn over(self, a: Made<Expr>, b: Made<Expr>) -> Made<Expr> {
+        self.product(a, Sign::Divide, b)
+    }
+
+    pub fn rest(self, a: Made<Expr>, b: Made<Expr>) -> Made<Expr> {
+        self.product(a, Sign::Remainder, b)
+    }
+
     pub fn compare(self, a: Made<Expr>, sign: Sign, b: Made<Expr>) -> Made<Expr> {
         Ok(Expr::Compare(sign, self.boxed(a)?, self.boxed(b)?))
     }

@@ -3,7 +3,7 @@
 ghost use Rattle.std.specs.Prelude.{◌≡◌, ◌≢◌, [], map, OnOk};
 ghost use Rattle.nb_eval.specs.Run.{Meets, HasRoom, Spends, SpendsAtMost};
 ghost use Rattle.nb_eval.specs.Operate.{sum_step, product_step};
-ghost use Rattle.nb_eval.specs.Evaluation.{eval, member, path_part, operand, parts, members, path_from, chain_from, all_true, some_true, quoted, name_value_of, list_of, record_of, fetch, unary, comparison};
+ghost use Rattle.nb_eval.specs.Evaluation.{eval, member, path_part, operand, parts, members, path_from, chain_from, all_true, some_true, quoted, name_value_of, list_of, record_of, call_of, fetch, unary, comparison, test_of, chosen_value};
 
 use crate::call::call;
 use crate::effects::ask;
@@ -15,7 +15,7 @@ use crate::state::State;
 use crate::steps::{as_truth, charged, within_depth};
 use crate::stop::Stop;
 use nb_syntax::{Expr, Member, Operand, PathStep, Sign};
-use nb_value::{Boxed, Items, Pairs, Text, Value};
+use nb_value::{Boxed, Function, Items, Pairs, Text, Value};
 use std::alloc::Global;
 
 /// The value of an expression.
@@ -33,10 +33,7 @@ pub fn eval_expr(e: &Expr, alloc: Global, given: &Segment, state: &mut State) ->
         Expr::Name(name) => named(alloc, given, state, name),
         Expr::List(items) => eval_list(items, alloc, given, state),
         Expr::Rec(members) => eval_record(members, alloc, given, state),
-        Expr::Call(function, args) => {
-            let args = eval_parts(args, alloc, given, state)?;
-            call(alloc, given, state, *function, &args)
-        }
+        Expr::Call(function, args) => eval_call(args, alloc, given, state, *function),
         Expr::Fetch(key) => eval_fetch(key, alloc, given, state),
         Expr::Path(root, steps) => {
             let root = eval_expr(root.get(), alloc, given, state)?;
@@ -53,20 +50,13 @@ pub fn eval_expr(e: &Expr, alloc: Global, given: &Segment, state: &mut State) ->
         }
         Expr::Compare(sign, left, right) => {
             let left = eval_expr(left.get(), alloc, given, state)?;
-            let right = eval_expr(right.get(), alloc, given, state)?;
-            compare(alloc, given, state, *sign, left, right)
+            eval_comparison(right, alloc, given, state, *sign, left)
         }
         Expr::And(parts) => eval_and(parts, alloc, given, state),
         Expr::Or(parts) => eval_or(parts, alloc, given, state),
         Expr::Choose(test, yes, no) => {
-            let test = eval_expr(test.get(), alloc, given, state)?;
-            let chosen = if as_truth(alloc, &test, "?")? {
-                yes.get()
-            } else {
-                no.get()
-            };
-            let value = eval_expr(chosen, alloc, given, state)?;
-            charged(alloc, given, state, value)
+            let test = eval_test(test, alloc, given, state)?;
+            eval_choice(if test { yes } else { no }, alloc, given, state)
         }
     }
 }
@@ -140,6 +130,73 @@ fn eval_record(
 {
     let fields = eval_members(list, alloc, given, state)?;
     let value = within_depth(alloc, Value::Rec(fields))?;
+    charged(alloc, given, state, value)
+}
+
+#[cycle(eval)]
+fn eval_call(
+    args: &Items<Expr>,
+    alloc: Global,
+    given: &Segment,
+    state: &mut State,
+    function: Function,
+) -> Result<Value, Stop>
+    requires { HasRoom given.now state.old }
+    ensures gives { Meets result state.new (call_of function (map (eval given.now) args.now) state.old) }
+    ensures spends { OnOk result (Spends given.now state.old state.new) }
+{
+    let args = eval_parts(args, alloc, given, state)?;
+    call(alloc, given, state, function, &args)
+}
+
+// A comparison of a value with the part at its right.
+#[cycle(eval)]
+fn eval_comparison(
+    right: &Boxed<Expr>,
+    alloc: Global,
+    given: &Segment,
+    state: &mut State,
+    sign: Sign,
+    left: Value,
+) -> Result<Value, Stop>
+    requires { HasRoom given.now state.old }
+    ensures gives { Meets result state.new (comparison sign left (eval given.now right.now) state.old) }
+    ensures spends { OnOk result (Spends given.now state.old state.new) }
+{
+    let right = eval_expr(right.get(), alloc, given, state)?;
+    let value = compared(alloc, sign, &left, &right)?;
+    charged(alloc, given, state, value)
+}
+
+// The test of a choice.
+#[cycle(eval)]
+fn eval_test(
+    test: &Boxed<Expr>,
+    alloc: Global,
+    given: &Segment,
+    state: &mut State,
+) -> Result<bool, Stop>
+    requires { HasRoom given.now state.old }
+    ensures gives { Meets result state.new (test_of (eval given.now test.now) state.old) }
+    ensures spends { OnOk result (Spends given.now state.old state.new) }
+{
+    let test = eval_expr(test.get(), alloc, given, state)?;
+    as_truth(alloc, &test, "?")
+}
+
+// The part that a test chose, as the value of the choice.
+#[cycle(eval)]
+fn eval_choice(
+    chosen: &Boxed<Expr>,
+    alloc: Global,
+    given: &Segment,
+    state: &mut State,
+) -> Result<Value, Stop>
+    requires { HasRoom given.now state.old }
+    ensures gives { Meets result state.new (chosen_value (eval given.now chosen.now) state.old) }
+    ensures spends { OnOk result (Spends given.now state.old state.new) }
+{
+    let value = eval_expr(chosen.get(), alloc, given, state)?;
     charged(alloc, given, state, value)
 }
 
@@ -321,22 +378,5 @@ fn named(alloc: Global, given: &Segment, state: &mut State, name: &Text) -> Resu
     ensures spends { OnOk result (Spends given.now state.old state.new) }
 {
     let value = read(alloc, given, state, name)?;
-    charged(alloc, given, state, value)
-}
-
-// A comparison of two values.
-fn compare(
-    alloc: Global,
-    given: &Segment,
-    state: &mut State,
-    sign: Sign,
-    left: Value,
-    right: Value,
-) -> Result<Value, Stop>
-    requires { HasRoom given.now state.old }
-    ensures gives { Meets result state.new (comparison sign left right state.old) }
-    ensures spends { OnOk result (Spends given.now state.old state.new) }
-{
-    let value = compared(alloc, sign, &left, &right)?;
     charged(alloc, given, state, value)
 }

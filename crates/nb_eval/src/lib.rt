@@ -4,6 +4,8 @@
 #[cfg(test)]
 mod build;
 mod call;
+#[cfg(test)]
+mod check;
 mod copy;
 mod done;
 mod effects;
@@ -22,6 +24,8 @@ mod stmt;
 mod stop;
 #[cfg(test)]
 mod tests;
+#[cfg(test)]
+mod tests_of_blocks;
 mod work;
 
 pub use done::is_work_of;

@@ -33,12 +33,10 @@ fn exec_stmt(stmt: &Stmt, alloc: Global, given: &Segment, state: &mut State) -> 
             assign(alloc, state, name, value)
         }
         Stmt::If(arms, other) => {
-            if exec_arms(arms, alloc, given, state)? {
-                return Ok(());
-            }
+            let ran = exec_arms(arms, alloc, given, state)?;
             match other {
-                Some(block) => exec_block(block, alloc, given, state),
-                None => Ok(()),
+                Some(block) if !ran => exec_block(block, alloc, given, state),
+                _ => Ok(()),
             }
         }
         Stmt::While(test, body) => exec_while(body, alloc, given, state, test),
