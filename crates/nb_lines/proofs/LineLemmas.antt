@@ -226,6 +226,7 @@ from_text t s e = go (cell_of t) e
     told_by c true p e =
         let same : of_editor_0 (event.Edit (AddCell 0 c true)) ≡ s = same_Some (of_editor_0 (event.Edit (AddCell 0 c true))) s e in
         (sym (ap (λ (x : ScriptLine). x.editor) same), (c, sym (ap (λ (x : ScriptLine). x.event) same), p))
+
     go : (o : Option Cell) → option_map of_editor_0 (option_map cell_event (option_and_then only_plain o)) ≡ Some s → AddsCell s
     go None e = cc
     go (Some c) e = told_by c (is_plain c) refl e

@@ -24,10 +24,11 @@ pub token_left : (tokens : List Token) (n : ℕ) (t : Token) → 0 < n → n ≤
 token_left tokens n t some within is =
     let i : ℕ = length tokens - n in
     let cut = split_at tokens i t (omega (arith, some, within)) in record {
-    before = take i tokens;
-    after = drop (suc i) tokens;
-    tokens_are = cut ∙ ap (λ u. take i tokens ++ u ∷ drop (suc i) tokens) (sym is);
-    left = omega (arith, some, within, length-drop (suc i) tokens) }
+      before = take i tokens;
+      after = drop (suc i) tokens;
+      tokens_are = cut ∙ ap (λ u. take i tokens ++ u ∷ drop (suc i) tokens) (sym is);
+      left = omega (arith, some, within, length-drop (suc i) tokens);
+    }
 
 -- ---- the token that is left
 
@@ -80,12 +81,15 @@ never_both text refused e f p = same.never_both text p.reads.placed refused p.re
 pub one_refusal : (text : List ℕ) (d e : ParseError) → IsRefused text d → IsRefused text e → d ≡ e
 one_refusal text d e p q =
     elim (by_case text d p) [
-      inl f ↦ (elim (by_case text e q) [
-        inl g ↦ f.1 ∙ ap Lex (same.one_fault text f.0 g.0 f.2 g.2) ∙ sym g.1
-      | inr g ↦ absurd (never_both text f.0 e f.2 g) ])
-    | inr f ↦ (elim (by_case text e q) [
-        inl g ↦ absurd (never_both text g.0 d g.2 f)
-      | inr g ↦ word_fault_same text d e f g ]) ]
+      | inl f ↦ (elim (by_case text e q) [
+        | inl g ↦ f.1 ∙ ap Lex (same.one_fault text f.0 g.0 f.2 g.2) ∙ sym g.1
+        | inr g ↦ absurd (never_both text f.0 e f.2 g)
+      ])
+      | inr f ↦ (elim (by_case text e q) [
+        | inl g ↦ absurd (never_both text g.0 d g.2 f)
+        | inr g ↦ word_fault_same text d e f g
+      ])
+    ]
 
 -- ---- the code
 

@@ -18,10 +18,11 @@ use Rattle.nb_parser.specs.Text.{behind_gap, and_more, words_within, words_of}
 
 skips_behind : (at : ℕ) (text rest : List ℕ) → behind_gap text ≡ rest → Skips at text (at + prefix_len is_gap text) rest
 skips_behind at text rest is = record {
-    gap = take (prefix_len is_gap text) text;
-    gap_is = run_passes is_gap text;
-    text_is = sym (take-append-drop (prefix_len is_gap text) text) ∙ ap (λ r. take (prefix_len is_gap text) text ++ r) is;
-    stop_is = ap (λ n. at + n) (sym (length-prefix_len is_gap text)) }
+  gap = take (prefix_len is_gap text) text;
+  gap_is = run_passes is_gap text;
+  text_is = sym (take-append-drop (prefix_len is_gap text) text) ∙ ap (λ r. take (prefix_len is_gap text) text ++ r) is;
+  stop_is = ap (λ n. at + n) (sym (length-prefix_len is_gap text));
+}
 
 behind_length : (text rest : List ℕ) → behind_gap text ≡ rest → length text ≡ prefix_len is_gap text + length rest
 behind_length text rest is =
@@ -54,10 +55,11 @@ one_more at text rest w end vs is s again =
     let takes : Takes p rest (drop end rest) = subst (Takes p rest) (sym behind) (record { spelling = s.spelling; spells = s.spells; ends = s.ends; text_is = s.text_is; end_is = refl }) in
     let more : Led p.end (drop end rest) vs = again p.end in
     let stop : p.end + length (drop end rest) ≡ at + length text =
-        omega (arith, ap length behind, ap length s.text_is, length-append s.spelling s.behind, behind_length text rest is) in (
+    omega (arith, ap length behind, ap length s.text_is, length-append s.spelling s.behind, behind_length text rest is) in (
       p ∷ more.0,
       (rest, drop end rest, skips_behind at text rest is, takes, subst (λ n. Leads p.end (drop end rest) more.0 n []) stop more.1),
-      ap (λ ws. w ∷ ws) more.2 )
+      ap (λ ws. w ∷ ws) more.2,
+    )
 
 words_led : (n at : ℕ) (text rest : List ℕ) (ws : List Word) → behind_gap text ≡ rest → words_within n rest ≡ Some ws → Led at text ws
 words_led n at text [] ws is e =
@@ -69,8 +71,10 @@ words_led (suc n) at text (b ∷ rest) ws is e = step (λ at text ws. words_led 
   where
     clear : begins is_gap (b ∷ rest) ≡ false
     clear = ap (begins is_gap) (sym is) ∙ run_clear is_gap text
+
     right : IsRight 0 (b ∷ rest) (front 0 (b ∷ rest))
     right = front_right 0 (b ∷ rest) clear (omega arith)
+
     step : ((at : ℕ) (text : List ℕ) (ws : List Word) → words_within n (behind_gap text) ≡ Some ws → Led at text ws)
         → (y : Found Word) → front 0 (b ∷ rest) ≡ y → and_more (λ r. words_within n (behind_gap r)) (b ∷ rest) y ≡ Some ws → Led at text ws
     step again (Err f) found e = cc
@@ -92,16 +96,21 @@ led_words n at text (p ∷ ps) stop l fits = step n fits (λ k. led_words k p.en
   where
     t : Takes p l.0 l.1
     t = l.3
+
     clear : begins is_gap l.0 ≡ false
     clear = ap (begins is_gap) t.text_is ∙ spelling_clear p.word t.spelling l.1 t.spells
+
     behind : behind_gap text ≡ l.0
     behind = behind_is at text p.start l.0 l.2 clear
+
     found : front 0 l.0 ≡ Ok (p.word, length t.spelling)
     found =
         let start : 0 + length t.spelling ≡ length t.spelling = omega arith in
         ap (front 0) t.text_is ∙ front_complete 0 p.word t.spelling l.1 t.spells t.ends ∙ ap (λ n. let r : Found Word = Ok (p.word, n) in r) start
+
     after : drop (length t.spelling) l.0 ≡ l.1
     after = ap (drop (length t.spelling)) t.text_is ∙ drop_at t.spelling l.1 (length t.spelling) refl
+
     step : (n : ℕ) → length text ≤ n → ((k : ℕ) → length l.1 ≤ k → words_within k (behind_gap l.1) ≡ Some (map word_of ps)) → words_within n (behind_gap text) ≡ Some (p.word ∷ map word_of ps)
     step zero fits again = absurd (omega (arith, fits, behind_length text l.0 behind, ap length t.text_is, length-append t.spelling l.1, spelling_some p.word t.spelling t.spells))
     step (suc k) fits again =

@@ -54,5 +54,6 @@ read_answer text tokens words r (Err f) s = inr (fault_refused text tokens words
 pub has_answer : (text : List ℕ) → IsUtf8 text → HasAnswer text
 has_answer text u =
     elim (tokens.has_answer text u) [
-      inl t ↦ read_answer text t.0 t.1.0 t.1.1 (whole 64 t.1.0) (grammar.read_is 64 t.1.0)
-    | inr f ↦ inr (Lex f.0, f.1) ]
+      | inl t ↦ read_answer text t.0 t.1.0 t.1.1 (whole 64 t.1.0) (grammar.read_is 64 t.1.0)
+      | inr f ↦ inr (Lex f.0, f.1)
+    ]

@@ -28,10 +28,12 @@ pub record Left {A B : Type 0} (next : List Word → Read (Option A)) (k : List 
 pub turn : {A B : Type 0} (next : List Word → Read (Option A)) → Falls next → (k : List A × List Word → Result B Fault)
     → (done pushed : List A) (ws mid : List Word) (o : Option A) (a : A) (total : Result B Fault)
     → next ws ≡ Ok (o, mid) → o ≡ Some a → pushed ≡ done ++ a ∷ [] → Left next k done ws total → Left next k pushed mid total
-turn {A} next f k done pushed ws mid o a total e is push left = record { same =
-    ap (λ h. rounds next h mid >>= k) push
-    ∙ ap (λ (y : Read (List A)). y >>= k) (rounds_go next f done ws mid a (e ∙ ap (λ h. Ok (h, mid)) is))
-    ∙ left.same }
+turn {A} next f k done pushed ws mid o a total e is push left = record {
+  same =
+      ap (λ h. rounds next h mid >>= k) push
+      ∙ ap (λ (y : Read (List A)). y >>= k) (rounds_go next f done ws mid a (e ∙ ap (λ h. Ok (h, mid)) is))
+      ∙ left.same;
+}
 
 pub bind_ok : {A B : Type 0} (y : Result A Fault) (k : A → Result B Fault) (x : A) → y ≡ Ok x → y >>= k ≡ k x
 bind_ok y k x is = ap (λ z. z >>= k) is
@@ -125,20 +127,24 @@ pub items_begin : (inside : Inside) (ws mid : List Word) (e : Expr) (none one : 
     → expr inside ws ≡ Ok (e, mid) → none ≡ [] → one ≡ none ++ e ∷ []
     → Left (item (expr inside)) (λ m. close_square m.1 >>= (λ rest. Ok (tree.List m.0, rest))) one mid (items (expr inside) ws)
 items_begin inside (word.CloseSquare ∷ ws) mid e none one is empty push = cc
-items_begin inside ws mid e none one is empty push = record { same =
-    ap (λ h. rounds (item (expr inside)) h mid >>= (λ m. close_square m.1 >>= (λ rest. Ok (tree.List m.0, rest)))) (push ∙ ap (λ h. h ++ e ∷ []) empty)
-    ∙ sym (bind_ok (expr inside ws)
-        (λ first. rounds (item (expr inside)) (first.0 ∷ []) first.1 >>= (λ m. close_square m.1 >>= (λ rest. Ok (tree.List m.0, rest)))) (e, mid) is) }
+items_begin inside ws mid e none one is empty push = record {
+  same =
+      ap (λ h. rounds (item (expr inside)) h mid >>= (λ m. close_square m.1 >>= (λ rest. Ok (tree.List m.0, rest)))) (push ∙ ap (λ h. h ++ e ∷ []) empty)
+      ∙ sym (bind_ok (expr inside ws)
+      (λ first. rounds (item (expr inside)) (first.0 ∷ []) first.1 >>= (λ m. close_square m.1 >>= (λ rest. Ok (tree.List m.0, rest)))) (e, mid) is);
+}
 
 -- a record that begins with a pair
 pub pairs_begin : (expr : List Word → Read Expr) (ws mid : List Word) (p : Member) (none one : List Member)
     → pair expr ws ≡ Ok (p, mid) → none ≡ [] → one ≡ none ++ p ∷ []
     → Left (next_pair expr) (λ m. close_curly m.1 >>= (λ rest. Ok (tree.Rec m.0, rest))) one mid (pairs expr ws)
 pairs_begin expr (word.CloseCurly ∷ ws) mid p none one is empty push = cc
-pairs_begin expr ws mid p none one is empty push = record { same =
-    ap (λ h. rounds (next_pair expr) h mid >>= (λ m. close_curly m.1 >>= (λ rest. Ok (tree.Rec m.0, rest)))) (push ∙ ap (λ h. h ++ p ∷ []) empty)
-    ∙ sym (bind_ok (pair expr ws)
-        (λ first. rounds (next_pair expr) (first.0 ∷ []) first.1 >>= (λ m. close_curly m.1 >>= (λ rest. Ok (tree.Rec m.0, rest)))) (p, mid) is) }
+pairs_begin expr ws mid p none one is empty push = record {
+  same =
+      ap (λ h. rounds (next_pair expr) h mid >>= (λ m. close_curly m.1 >>= (λ rest. Ok (tree.Rec m.0, rest)))) (push ∙ ap (λ h. h ++ p ∷ []) empty)
+      ∙ sym (bind_ok (pair expr ws)
+      (λ first. rounds (next_pair expr) (first.0 ∷ []) first.1 >>= (λ m. close_curly m.1 >>= (λ rest. Ok (tree.Rec m.0, rest)))) (p, mid) is);
+}
 
 -- ---- the arguments of a function
 

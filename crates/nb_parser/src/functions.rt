@@ -29,5 +29,8 @@ const FUNCTIONS: [Function; 16] = [
 pub fn function_of(name: &Text) -> Option<Function>
     ensures { result ≡ called name.now }
 {
-    FUNCTIONS.iter().copied().find(|function| function.name() == name.as_str())
+    FUNCTIONS
+        .iter()
+        .copied()
+        .find(|function| function.name() == name.as_str())
 }

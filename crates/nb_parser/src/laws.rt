@@ -12,5 +12,4 @@ pub fn law_of_cells()
     ensures one_cell { (text : List ℕ) (c d : Cell) → Parses text c → Parses text d → c ≡ d }
     ensures one_refusal { (text : List ℕ) (d e : ParseError) → IsRefused text d → IsRefused text e → d ≡ e }
     ensures never_both { (text : List ℕ) (c : Cell) (e : ParseError) → Parses text c → IsRefused text e → ⊥ }
-{
-}
+{}

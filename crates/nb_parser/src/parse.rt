@@ -44,7 +44,12 @@ fn read(alloc: Global, text: &str) -> Result<Cell, ParseError>
 }
 
 /// The fault of the tokens' words, with its place in the text.
-fn placed(alloc: Global, text: &str, tokens: &[Token], fault: Fault) -> Result<ParseError, AllocError>
+fn placed(
+    alloc: Global,
+    text: &str,
+    tokens: &[Token],
+    fault: Fault,
+) -> Result<ParseError, AllocError>
     requires spans { All (IsSpan text.now) tokens.now }
     requires among { IsAmong (length tokens.now) fault }
     ensures { IfOk result (Places text.now tokens.now fault) }

@@ -43,7 +43,10 @@ fn cells() -> [(&'static str, &'static str); 16] {
         ("a||b&&c||(d||e)", "a || b && c || (d || e)"),
         ("a<b?c:(d?e:f)", "a < b ? c : (d ? e : f)"),
         ("[1,[],{}]", "[1, [], {}]"),
-        ("slice(len,sum([1]),fetch(\"u\\n\"))", "slice(len, sum([1]), fetch(\"u\\n\"))"),
+        (
+            "slice(len,sum([1]),fetch(\"u\\n\"))",
+            "slice(len, sum([1]), fetch(\"u\\n\"))",
+        ),
         ("{}", "{}"),
         ("{a: 1}", "{\"a\": 1}"),
         ("{\"a\": 1, b: null}", "{\"a\": 1, \"b\": null}"),
@@ -86,7 +89,10 @@ fn refusals() -> [(&'static str, &'static str); 24] {
         ("len(1, 2)", "Unexpected 5 ,"),
         ("has(1)", "Unexpected 5 )"),
         ("\u{a0}", "Lex BadCharacter(0)"),
-        ("x = \"\u{e9}\" \"\u{e9}\u{e9}\"", "Unexpected 9 \"\u{e9}\u{e9}\""),
+        (
+            "x = \"\u{e9}\" \"\u{e9}\u{e9}\"",
+            "Unexpected 9 \"\u{e9}\u{e9}\"",
+        ),
     ]
 }
 

@@ -4,6 +4,7 @@ use Rattle.nb_parser.proofs.cell.exact.Goals as goal
 
 pub returns : goal.returns
 returns c = record {
-    gives = c.whole.ensures;
-    comes = comes c.args.room c.args.words.now c.whole.result c.whole.ensures;
-    only = gives_only c.args.room c.args.words.now c.whole.result c.whole.ensures }
+  gives = c.whole.ensures;
+  comes = comes c.args.room c.args.words.now c.whole.result c.whole.ensures;
+  only = gives_only c.args.room c.args.words.now c.whole.result c.whole.ensures;
+}
