@@ -1,14 +1,7 @@
--- A plain cell is no generator, and a cell that is a sum is plain.
-use Rattle.std.proofs.Common.{ℕ, ◌≡◌, refl, sym, ◌∙◌, ap, subst, Bool, true, false, ◌&&◌, ◌||◌, List, [], ◌∷◌, map, Option, Some, None}
-use Rattle.std.specs.List.{list_all, list_any}
+-- A plain cell is no generator.
+use Rattle.std.proofs.Common.{◌≡◌, refl, sym, ◌∙◌, subst, Bool, true, false, ◌&&◌, List, [], ◌∷◌, map, Some, None}
 use Rattle.std.proofs.lemmas.Bool.{false≢true, and_parts}
-use Rattle.nb_syntax.specs.declared.tree.Sign.{Sign}
-use Rattle.nb_syntax.specs.declared.tree.Sign.TheVariants as sign
-use Rattle.nb_syntax.specs.declared.tree.Expr.{Expr, out-Expr, roll-Expr, map-Expr, fold-roll-Expr, roll-out-Expr}
-use Rattle.nb_syntax.specs.declared.tree.Expr.TheOpen as layer
-use Rattle.nb_syntax.specs.declared.tree.PathStep.{PathStep}
-use Rattle.nb_syntax.specs.declared.tree.Member.{Member}
-use Rattle.nb_syntax.specs.declared.tree.Operand.{Operand, fold_out-Operand}
+use Rattle.nb_syntax.specs.declared.tree.Expr.{Expr}
 use Rattle.nb_syntax.specs.declared.tree.Block.{Block, ind-Block, roll-Block, fold_out-Block}
 use Rattle.nb_syntax.specs.declared.tree.Arm.{Arm, roll-Arm, fold_out-Arm}
 use Rattle.nb_syntax.specs.declared.tree.Stmt.{Stmt, roll-Stmt, map-Stmt, fold-roll-Stmt}
@@ -17,10 +10,9 @@ use Rattle.nb_syntax.specs.declared.tree.Body.{Body}
 use Rattle.nb_syntax.specs.declared.tree.Body.TheVariants as body
 use Rattle.nb_syntax.specs.declared.tree.Cell.{Cell}
 use Rattle.nb_syntax.specs.Generator as yield
-use Rattle.nb_syntax.specs.Generator.{stmt_yields, arm_yields, block_yields, some_yield, other_yields, yields, is_generator}
+use Rattle.nb_syntax.specs.Generator.{stmt_yields, arm_yields, block_yields, some_yield, yields, is_generator}
 use Rattle.nb_syntax.specs.Plain as plain
-use Rattle.nb_syntax.specs.Plain.{expr_plain, operand_plain, stmt_plain, arm_plain, block_plain, all_plain, other_plain, body_plain, is_plain}
-use Rattle.nb_syntax.specs.Sums.{part_layer, is_part, adds, operand_adds, sum_layer, expr_sums, body_sums, has_cell_name, is_sum}
+use Rattle.nb_syntax.specs.Plain.{expr_plain, stmt_plain, arm_plain, block_plain, all_plain, body_plain, is_plain}
 
 abbrev Proved : (X : Type 0) → (X → Type 0) → Type 0
 Proved X P = (x : X) × P x
@@ -108,76 +100,3 @@ plain_yields c h = go c.body h
     go : (b : Body) → body_plain b ≡ true → yields b ≡ false
     go (body.Expr e) h = refl
     go (body.Block b) h = calm b h
-
--- ---- sums
-
-abbrev expr_plains : layer.Expr-F Expr PathStep Member Operand → layer.Expr-F Bool Bool Bool Bool
-expr_plains = map-Expr Expr PathStep Member Operand Bool Bool Bool Bool expr_plain plain.path_step_plain plain.member_plain operand_plain
-
-expr_plain_is : (e : Expr) → expr_plain e ≡ plain.expr_step (expr_plains (out-Expr e))
-expr_plain_is e =
-    ap expr_plain (sym (roll-out-Expr e)) ∙ fold-roll-Expr Bool Bool Bool Bool plain.expr_step plain.path_step plain.member_step plain.operand_step (out-Expr e)
-
-operand_plain_is : (o : Operand) → operand_plain o ≡ expr_plain o.expr
-operand_plain_is o = fold_out-Operand Bool Bool Bool Bool plain.expr_step plain.path_step plain.member_step plain.operand_step o
-
-part_plain : (e : Expr) → is_part e ≡ true → expr_plain e ≡ true
-part_plain e h = expr_plain_is e ∙ go (out-Expr e) h
-  where
-    go : (x : layer.Expr-F Expr PathStep Member Operand) → part_layer x ≡ true → plain.expr_step (expr_plains x) ≡ true
-    go (layer.Int n) h = refl
-    go (layer.Name t) h = refl
-    go (layer.Quoted t) h = absurd (false≢true h)
-    go (layer.Bool b) h = absurd (false≢true h)
-    go layer.Null h = absurd (false≢true h)
-    go (layer.List xs) h = absurd (false≢true h)
-    go (layer.Rec ms) h = absurd (false≢true h)
-    go (layer.Call f xs) h = absurd (false≢true h)
-    go (layer.Fetch e) h = absurd (false≢true h)
-    go (layer.Path e ss) h = absurd (false≢true h)
-    go (layer.Unary s e) h = absurd (false≢true h)
-    go (layer.Product e os) h = absurd (false≢true h)
-    go (layer.Sum e os) h = absurd (false≢true h)
-    go (layer.Compare s a b) h = absurd (false≢true h)
-    go (layer.And xs) h = absurd (false≢true h)
-    go (layer.Or xs) h = absurd (false≢true h)
-    go (layer.Choose c a b) h = absurd (false≢true h)
-
-operands_plain : (os : List Operand) → list_all operand_adds os ≡ true → all_plain (map operand_plain os) ≡ true
-operands_plain [] h = refl
-operands_plain (o ∷ os) h =
-    let parts : (operand_adds o ≡ true) × (list_all operand_adds os ≡ true) = and_parts _ _ h in
-    let this : operand_plain o ≡ true = operand_plain_is o ∙ part_plain o.expr (and_parts (adds o.sign) (is_part o.expr) parts.0).1 in
-    rw (this, operands_plain os parts.1) refl
-
-sum_plain : (e : Expr) → expr_sums e ≡ true → expr_plain e ≡ true
-sum_plain e h = expr_plain_is e ∙ go (out-Expr e) h
-  where
-    go : (x : layer.Expr-F Expr PathStep Member Operand) → sum_layer x ≡ true → plain.expr_step (expr_plains x) ≡ true
-    go (layer.Int n) h = refl
-    go (layer.Name t) h = refl
-    go (layer.Sum first more) h =
-        let parts : (is_part first ≡ true) × (list_all operand_adds more ≡ true) = and_parts _ _ h in
-        rw (part_plain first parts.0, operands_plain more parts.1) refl
-    go (layer.Quoted t) h = absurd (false≢true h)
-    go (layer.Bool b) h = absurd (false≢true h)
-    go layer.Null h = absurd (false≢true h)
-    go (layer.List xs) h = absurd (false≢true h)
-    go (layer.Rec ms) h = absurd (false≢true h)
-    go (layer.Call f xs) h = absurd (false≢true h)
-    go (layer.Fetch e) h = absurd (false≢true h)
-    go (layer.Path e ss) h = absurd (false≢true h)
-    go (layer.Unary s e) h = absurd (false≢true h)
-    go (layer.Product e os) h = absurd (false≢true h)
-    go (layer.Compare s a b) h = absurd (false≢true h)
-    go (layer.And xs) h = absurd (false≢true h)
-    go (layer.Or xs) h = absurd (false≢true h)
-    go (layer.Choose c a b) h = absurd (false≢true h)
-
--- a sum is plain
-pub sum_is_plain : (c : Cell) → is_sum c ≡ true → is_plain c ≡ true
-sum_is_plain c h = go c.body (and_parts (has_cell_name c.name) (body_sums c.body) h).1
-  where
-    go : (b : Body) → body_sums b ≡ true → body_plain b ≡ true
-    go (body.Expr e) h = sum_plain e h
-    go (body.Block b) h = absurd (false≢true h)

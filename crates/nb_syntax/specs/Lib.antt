@@ -1,5 +1,4 @@
 pub mod Generator
 pub mod Plain
-pub mod Sums
 pub mod Print
 pub mod FreeNames

@@ -1,4 +1,4 @@
-//! The trees of cells: copies, printed text, free names, and which cells yield, fetch or add.
+//! The trees of cells: copies, printed text, free names, which cells are generators and which are plain.
 #![tactic(auto)]
 
 #[cfg(test)]
@@ -19,7 +19,6 @@ mod print_stmt;
 mod printing;
 mod quoted;
 mod scope;
-mod sums;
 #[cfg(test)]
 mod tests;
 mod tree;
@@ -29,5 +28,4 @@ pub use generator::is_generator;
 pub use length::printed_len;
 pub use plain::is_plain;
 pub use printing::print;
-pub use sums::is_sum;
 pub use tree::{Arm, Block, Body, Cell, Expr, Member, Operand, PathStep, Sign, Stmt};
