@@ -1,5 +1,5 @@
 -- A run of lines keeps their history, and what is promised of it.
-use Rattle.std.proofs.Common.{ℕ, zero, suc, ◌≡◌, ◌<◌, ◌≤◌, ◌+◌, refl, sym, ◌∙◌, ap, subst, Bool, true, false, List, [], ◌∷◌, ◌++◌, append_assoc, length, drop, get_or, drop-cons, add-one, map, arith, Option, Some, None}
+use Rattle.std.proofs.Common.{ℕ, zero, suc, ◌≡◌, ◌<◌, ◌≤◌, ◌+◌, refl, sym, ◌∙◌, ap, subst, Bool, true, false, List, [], ◌∷◌, ◌++◌, append_assoc, length, drop, get_or, drop-cons, add-one, map, arith, Option, Some, None, Result, Ok, Err, OnOk, IfOk, IfErr}
 use Rattle.std.proofs.lemmas.Bool.{false≢true}
 use Rattle.std.proofs.lemmas.Option.{none-some}
 use Rattle.nb_value.specs.declared.value.Value.{Value}
@@ -142,7 +142,14 @@ running_ends lines all i h over so_far =
       },
     )
 
--- ---- as the loop has it
+-- ---- as the calls have it
+
+-- what holds where an answer came, if it came
+pub gains_of : {X Y Z W : Type 0} (r : Result X Y) (answer : Result Z W) (P : Z → Type 0) (G : Type 0) → OnOk r (IfErr answer (λ _. ⊥)) → IfOk answer (λ z. P z × G) → OnOk r G
+gains_of (Ok x) (Ok z) P G came told = told.1
+gains_of (Ok x) (Err w) P G came told = absurd came
+gains_of (Err y) answer P G came told = tt
+
 
 pub begins_here : (lines : List ScriptLine) (h : History) (b : List (Field Value)) → b ≡ [] → h ≡ (let e : History = record { builtins = b; log = [] } in e) → IsRunning lines lines h
 begins_here lines h b none is =

@@ -1,4 +1,4 @@
-ghost use Rattle.std.specs.Prelude.{◌≡◌, [], All, IfOk, OnOk};
+ghost use Rattle.std.specs.Prelude.{◌≡◌, [], All, IfOk, IfErr, OnOk};
 ghost use Rattle.nb_log.specs.Tickets.{HasSmallTickets};
 ghost use Rattle.nb_history.specs.Headline.{IsHistoryOf};
 ghost use Rattle.nb_history.specs.History.{IsClosedHistory, standing};
@@ -9,6 +9,7 @@ ghost use Rattle.nb_main.specs.Run.{TakesLine};
 
 use nb_core::{Core, settle};
 use nb_lines::{ScriptLine, Scripts};
+use nb_log::Event;
 use nb_value::{Pairs, Tree};
 use std::alloc::{AllocError, Global};
 
@@ -44,7 +45,14 @@ fn add_line(alloc: Global, core: &mut Core, line: &ScriptLine) -> Result<(), All
     ensures { OnOk result (Gains core.old (admit (standing core.old) line.now.editor line.now.event) core.new) }
 {
     let event = line.event.copy(alloc)?;
-    match core.event(line.editor, event) {
+    taken(core.event(line.editor, event))
+}
+
+/// Whether the core took an event, without its place, and without the event where memory ran out.
+fn taken(answer: Result<u64, (Event, AllocError)>) -> Result<(), AllocError>
+    ensures { OnOk result (IfErr answer (λ _. ⊥)) }
+{
+    match answer {
         Ok(_) => Ok(()),
         Err((_, refused)) => Err(refused),
     }

@@ -1,5 +1,16 @@
-use Rattle.std.proofs.Common.{◌∙◌}
+use Rattle.std.proofs.Common.{◌≡◌, ◌+◌, ◌∙◌, ℕ, length, subst, OnOk}
+use Rattle.nb_log.specs.declared.event.Event.{Event}
+use Rattle.nb_history.specs.History.{standing}
+use Rattle.nb_history.specs.Log.{admit}
+use Rattle.nb_core.specs.Core.{Gains}
+use Rattle.nb_main.proofs.RunLemmas.{gains_of}
 use Rattle.nb_main.proofs.history.add_line.Goals as goal
 
 pub event-requires-clause-form : goal.event-requires-clause-form
 event-requires-clause-form c = (c.requires.1.0, c.in_ok-event.ensures ∙ c.requires.1.1, c.requires.1.2)
+
+pub returns : goal.returns
+returns c =
+    subst (λ (e : Event). OnOk c.taken.result (Gains c.args.core.now (admit (standing c.args.core.now) c.args.line.now.editor e) c.event.new.self)) c.in_ok-event.ensures
+    (gains_of c.taken.result c.event.result (λ (place : ℕ). place ≡ length c.args.core.now.log + 1)
+    (Gains c.args.core.now (admit (standing c.args.core.now) c.args.line.now.editor c.in_ok-event.event) c.event.new.self) c.taken.ensures c.event.ensures.ok)

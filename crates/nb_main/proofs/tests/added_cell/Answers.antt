@@ -1,5 +1,5 @@
-use Rattle.std.proofs.Common.{refl}
+use Rattle.std.proofs.Common.{refl, sym, ◌∙◌}
 use Rattle.nb_main.proofs.tests.added_cell.Goals as goal
 
-pub returns : goal.returns
-returns c = (c.in_ok-x_is_one.field-0, refl, c.is_plain.ensures)
+pub returns-then-is_plain : goal.returns-then-is_plain
+returns-then-is_plain c = (c.in_ok-cell.cell, refl, sym c.is_plain.ensures ∙ c.if-is_plain.true)
