@@ -1,6 +1,6 @@
 //! Texts that are cells, and texts that are none.
 use crate::error::ParseError;
-use crate::laws::law_of_cells;
+use crate::laws::{law_of_cells, law_of_printing};
 use crate::parse::parse_cell;
 use nb_syntax::{Body, Cell, Expr, print};
 use std::alloc::Global;
@@ -202,4 +202,5 @@ fn tells_records_from_blocks(rt: HostRuntime) -> Result<(), Fail> {
 #[test]
 fn states_its_laws(rt: HostRuntime) {
     law_of_cells();
+    law_of_printing();
 }
