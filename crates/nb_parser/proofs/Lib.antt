@@ -4,3 +4,13 @@ pub mod CellLaws
 pub mod Places
 pub mod Total
 pub mod Turns
+pub mod Tight
+pub mod WayTexts
+pub mod FirstBytes
+pub mod WayWords
+pub mod WayStmts
+pub mod PrintLaws
+pub mod PrintForms
+pub mod PrintExpr
+pub mod PrintCell
+pub mod PrintedCell

@@ -15,5 +15,5 @@ mod statements;
 mod tests;
 
 pub use error::ParseError;
-pub use laws::law_of_cells;
+pub use laws::{law_of_cells, law_of_printing};
 pub use parse::parse_cell;

@@ -1,6 +1,6 @@
 //! Texts that are cells, and texts that are none.
 use crate::error::ParseError;
-use crate::laws::law_of_cells;
+use crate::laws::{law_of_cells, law_of_printing};
 use crate::parse::parse_cell;
 use nb_syntax::{Body, Cell, Expr, print};
 use std::alloc::Global;
@@ -33,7 +33,7 @@ fn read(alloc: Global, text: &str) -> Result<String, Fail> {
 }
 
 // Texts, with the cells as they are printed.
-fn cells() -> [(&'static str, &'static str); 16] {
+fn cells() -> [(&'static str, &'static str); 17] {
     [
         ("x=1", "x = 1"),
         (" (1) ", "1"),
@@ -43,6 +43,7 @@ fn cells() -> [(&'static str, &'static str); 16] {
         ("a||b&&c||(d||e)", "a || b && c || (d || e)"),
         ("a<b?c:(d?e:f)", "a < b ? c : (d ? e : f)"),
         ("[1,[],{}]", "[1, [], {}]"),
+        ("x=\"\\\"\\\\\\n\\r\\t\"", "x = \"\\\"\\\\\\n\\r\\t\""),
         (
             "slice(len,sum([1]),fetch(\"u\\n\"))",
             "slice(len, sum([1]), fetch(\"u\\n\"))",
@@ -64,12 +65,13 @@ fn cells() -> [(&'static str, &'static str); 16] {
 }
 
 // Texts, with why they are no cells.
-fn refusals() -> [(&'static str, &'static str); 24] {
+fn refusals() -> [(&'static str, &'static str); 25] {
     [
         ("x = 1 +", "Ended 7"),
         ("x = )", "Unexpected 4 )"),
         ("foo(1)", "Unexpected 3 ("),
         ("x = #", "Lex BadCharacter(4)"),
+        ("x = & 1", "Lex BadCharacter(4)"),
         ("x = ) \"", "Lex OpenText(6)"),
         ("", "Ended 0"),
         (" \n", "Ended 2"),
@@ -208,4 +210,5 @@ fn tells_records_from_blocks(rt: HostRuntime) -> Result<(), Fail> {
 #[test]
 fn states_its_laws(rt: HostRuntime) {
     law_of_cells();
+    law_of_printing();
 }
