@@ -19,7 +19,6 @@ use Rattle.nb_grammar.proofs.FormLaws.{forms-Int, forms-Quoted, forms-Bool, form
 use Rattle.nb_grammar.proofs.FormLaws as form
 use Rattle.nb_parser.proofs.WayTexts as text
 use Rattle.nb_parser.proofs.PrintLaws as laws
-
 use Rattle.nb_grammar.proofs.FormExpr.{as_compare_again, as_sum_again, as_product_again, as_unary_again}
 use Rattle.nb_parser.proofs.PrintForms.{Prints, prints_primary, prints_expr, prints_or, prints_and, prints_compare, prints_sum, prints_product, prints_unary, prints_postfix, along, two, quoted_same, member_start, choose_text, or_part_text, and_part_text, compare_text, summand_text, factor_text, unary_text, field_text, at_text, item_text, enclosed, call1_text, call2_text, call3_text, fetch_text}
 

@@ -92,11 +92,12 @@ written_first : (space : Bool) (w : Word) (ws : List Word) (t rest : List ℕ) �
 written_first space w ws t rest ok is ends more =
     let gap : List ℕ = if space then 32 ∷ [] else [] in
     let s : Spaced = record { space = space; word = w } in record {
-    parts = s ∷ more.parts;
-    words_are = ap (λ vs. w ∷ vs) more.words_are;
-    text_is = ap (λ r. gap ++ word_text w ++ r) more.text_is ∙ append_assoc gap (word_text w) rest ∙ ap (λ r. gap ++ r) (sym is);
-    apart = join_apart s more.parts (subst (λ r. Ends w r) (sym more.text_is) ends) more.apart;
-    writable = (ok, more.writable) }
+      parts = s ∷ more.parts;
+      words_are = ap (λ vs. w ∷ vs) more.words_are;
+      text_is = ap (λ r. gap ++ word_text w ++ r) more.text_is ∙ append_assoc gap (word_text w) rest ∙ ap (λ r. gap ++ r) (sym is);
+      apart = join_apart s more.parts (subst (λ r. Ends w r) (sym more.text_is) ends) more.apart;
+      writable = (ok, more.writable);
+    }
 
 pub written : (ws : List Word) (t : List ℕ) → Each IsWritable ws → Loose ws t → Written ws t
 written [] t ok h = record { parts = []; words_are = refl; text_is = sym h; apart = tt; writable = tt }
