@@ -1,11 +1,7 @@
 //! The evaluation of cells.
 #![tactic(auto)]
 
-#[cfg(test)]
-mod build;
 mod call;
-#[cfg(test)]
-mod check;
 mod copy;
 mod done;
 mod effects;
@@ -22,10 +18,6 @@ mod state;
 mod steps;
 mod stmt;
 mod stop;
-#[cfg(test)]
-mod tests;
-#[cfg(test)]
-mod tests_of_blocks;
 mod work;
 
 pub use done::is_work_of;

@@ -2,7 +2,7 @@
 use crate::error::ParseError;
 use crate::laws::{law_of_cells, law_of_printing};
 use crate::parse::parse_cell;
-use nb_syntax::{Body, Expr, print};
+use nb_syntax::{Body, Expr, Names, free_names, is_generator, is_plain, print, printed_len};
 use std::alloc::Global;
 use std::test::Fail;
 
@@ -208,4 +208,57 @@ fn tells_records_from_blocks(rt: HostRuntime) -> Result<(), Fail> {
 fn states_its_laws(rt: HostRuntime) {
     law_of_cells();
     law_of_printing();
+}
+
+// Texts of cells, with their free names, and whether they are generators and plain.
+fn kinds() -> [(&'static str, &'static str, bool, bool); 15] {
+    [
+        ("1", "", false, true),
+        ("a + b.c + a", "a b", false, true),
+        ("{\"k\": v}.w[i]", "v i", false, true),
+        ("x = { let a = b; return a + c + b; }", "b c", false, true),
+        ("{ let a = a; return a; }", "a", false, true),
+        ("{ let a = 1; let a = a + b; return a; }", "b", false, true),
+        ("{ for (let i of i) { i = i + j; } return i; }", "i j", false, true),
+        ("{ if (a) { let b = 1; } else if (c) { let d = 1; } return b + d; }", "a c b d", false, true),
+        ("{ a = b; }", "b", false, true),
+        ("{ throw a ? b : !c; }", "a b c", false, true),
+        ("{ while (true) { if (a) { yield b; } } }", "a b", true, false),
+        ("{ if (a) {} else { for (let c of b) { yield c; } } }", "a b", true, false),
+        ("{ if (a) { cleanup b; } }", "a b", false, false),
+        ("[fetch(\"k\"), len(a)]", "a", false, false),
+        ("{ let a = {\"k\": b[fetch(c)]}; }", "b c", false, false),
+    ]
+}
+
+// The names with spaces between.
+fn joined(alloc: Global, names: &Names) -> Result<String, Fail> {
+    let mut all = String::new(alloc);
+    for name in names.as_slice() {
+        if !all.is_empty() {
+            all.push_str(" ")?;
+        }
+        all.push_str(name.as_str())?;
+    }
+    Ok(all)
+}
+
+#[test]
+fn tells_names_and_kinds(rt: HostRuntime) -> Result<(), Fail> {
+    let alloc = rt.alloc();
+    for (text, names, generator, plain) in kinds() {
+        let Ok(cell) = parse_cell(alloc, text) else {
+            return Err("refused".into());
+        };
+        let found = free_names(alloc, &cell)?;
+        let found = joined(alloc, &found)?;
+        assert_eq!(rt; found.as_str(), names);
+        assert_eq!(rt; is_generator(&cell), generator);
+        assert_eq!(rt; is_plain(&cell), plain);
+        let printed = print(alloc, &cell)?;
+        assert_eq!(rt; printed_len(&cell), printed.len() as u64);
+        let copy = cell.copy(alloc)?;
+        assert!(rt; copy.same(&cell));
+    }
+    Ok(())
 }

@@ -1,8 +1,6 @@
 //! The trees of cells: copies, printed text, free names, which cells are generators and which are plain.
 #![tactic(auto)]
 
-#[cfg(test)]
-mod builders;
 mod copy;
 mod copy_stmt;
 mod free;
@@ -19,8 +17,6 @@ mod print_stmt;
 mod printing;
 mod quoted;
 mod scope;
-#[cfg(test)]
-mod tests;
 mod tree;
 
 pub use free::{Names, free_names};
