@@ -150,7 +150,6 @@ gains_of (Ok x) (Ok z) P G came told = told.1
 gains_of (Ok x) (Err w) P G came told = absurd came
 gains_of (Err y) answer P G came told = tt
 
-
 pub begins_here : (lines : List ScriptLine) (h : History) (b : List (Field Value)) → b ≡ [] → h ≡ (let e : History = record { builtins = b; log = [] } in e) → IsRunning lines lines h
 begins_here lines h b none is =
     subst (IsRunning lines lines) (sym (is ∙ ap (λ (x : List (Field Value)). let e : History = record { builtins = x; log = [] } in e) none)) (running_begins lines)

@@ -1,6 +1,8 @@
 //! Evaluations of cells by their texts.
 
-use nb_eval::{Ending, Segment, evaluate, law_of_answers, law_of_loops, law_of_plain_cells, law_of_pulls};
+use nb_eval::{
+    Ending, Segment, evaluate, law_of_answers, law_of_loops, law_of_plain_cells, law_of_pulls,
+};
 use nb_log::kind_name;
 use nb_parser::parse_cell;
 use nb_value::{Answer, CellError, Items, Pairs, Text, Value};
@@ -9,6 +11,7 @@ use std::test::Fail;
 
 /// A cell's text, the pull count, the answers to its fetches (a text that begins with `!` is a failure), and how its
 /// evaluation ends, with the number of its yields and its cleanups. The input `a` is 2.
+#[derive(Clone, Copy)]
 struct Row {
     cell: &'static str,
     pulls: u32,
@@ -81,10 +84,19 @@ fn values() -> [Row; 24] {
         ends("true || 1", "Done true"),
         ends("a > 1 ? \"more\" : 1 / 0", "Done \"more\""),
         ends("sum(sort([3, 1, 2]))", "Done 6"),
-        ends("{ let b = 1; if (true) { let b = 2; b = 3; } return b; }", "Done 1"),
+        ends(
+            "{ let b = 1; if (true) { let b = 2; b = 3; } return b; }",
+            "Done 1",
+        ),
         ends("{ let b = 1; if (true) { b = 3; } return b; }", "Done 3"),
-        ends("{ let l = [1, 2, 3]; let n = 0; for (let x of l) { l = []; n = n + x; } return n; }", "Done 6"),
-        ends("{ let i = 0; while (i < 10000) { i = i + 1; } return i; }", "Done 10000"),
+        ends(
+            "{ let l = [1, 2, 3]; let n = 0; for (let x of l) { l = []; n = n + x; } return n; }",
+            "Done 6",
+        ),
+        ends(
+            "{ let i = 0; while (i < 10000) { i = i + 1; } return i; }",
+            "Done 10000",
+        ),
         ends("{ let b = 1; }", "Done null"),
         ends("len(range(0, 999992))", "Done 999992"),
         ends("len(range(0, 999993))", "Failed OutOfFuel "),
@@ -96,18 +108,67 @@ fn values() -> [Row; 24] {
 fn pulls() -> [Row; 14] {
     [
         ends("fetch(\"k\") + a", "Needs k"),
-        Row { answers: &["5"], ..ends("fetch(\"k\") + a", "Done 7") },
-        Row { answers: &["!gone"], ..ends("fetch(\"k\") + a", "Failed FetchFailed gone") },
-        Row { answers: &["1"], ..ends("[fetch(\"k\"), fetch(\"l\")]", "Needs l") },
-        Row { made: 1, ..ends("{ yield 1; yield 2; }", "Paused") },
-        Row { pulls: 2, made: 2, ..ends("{ yield 1; yield 2; }", "Paused") },
-        Row { pulls: 3, made: 2, ..ends("{ yield 1; yield 2; }", "Done null") },
-        Row { made: 0, ..ends("{ yield range(0, 16384); }", "Failed TooLarge value") },
-        Row { pulls: 2, made: 1, ..ends("{ yield 1; yield fetch(\"k\"); }", "Needs k") },
-        Row { pulls: 2, made: 2, ..ends("{ yield len(range(0, 999000)); yield len(range(0, 999000)); }", "Paused") },
-        Row { cleanups: 1, ..ends("{ cleanup a; return 1; }", "Done 1") },
-        Row { cleanups: 16, ..ends("{ for (let b of range(0, 16)) { cleanup b; } }", "Done null") },
-        Row { cleanups: 16, ..ends("{ for (let b of range(0, 17)) { cleanup b; } }", "Failed TooLarge cleanup") },
+        Row {
+            answers: &["5"],
+            ..ends("fetch(\"k\") + a", "Done 7")
+        },
+        Row {
+            answers: &["!gone"],
+            ..ends("fetch(\"k\") + a", "Failed FetchFailed gone")
+        },
+        Row {
+            answers: &["1"],
+            ..ends("[fetch(\"k\"), fetch(\"l\")]", "Needs l")
+        },
+        Row {
+            made: 1,
+            ..ends("{ yield 1; yield 2; }", "Paused")
+        },
+        Row {
+            pulls: 2,
+            made: 2,
+            ..ends("{ yield 1; yield 2; }", "Paused")
+        },
+        Row {
+            pulls: 3,
+            made: 2,
+            ..ends("{ yield 1; yield 2; }", "Done null")
+        },
+        Row {
+            made: 0,
+            ..ends("{ yield range(0, 16384); }", "Failed TooLarge value")
+        },
+        Row {
+            pulls: 2,
+            made: 1,
+            ..ends("{ yield 1; yield fetch(\"k\"); }", "Needs k")
+        },
+        Row {
+            pulls: 2,
+            made: 2,
+            ..ends(
+                "{ yield len(range(0, 999000)); yield len(range(0, 999000)); }",
+                "Paused",
+            )
+        },
+        Row {
+            cleanups: 1,
+            ..ends("{ cleanup a; return 1; }", "Done 1")
+        },
+        Row {
+            cleanups: 16,
+            ..ends(
+                "{ for (let b of range(0, 16)) { cleanup b; } }",
+                "Done null",
+            )
+        },
+        Row {
+            cleanups: 16,
+            ..ends(
+                "{ for (let b of range(0, 17)) { cleanup b; } }",
+                "Failed TooLarge cleanup",
+            )
+        },
         ends("{ cleanup range(0, 1024); }", "Failed TooLarge cleanup"),
     ]
 }
