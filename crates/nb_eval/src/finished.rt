@@ -13,6 +13,7 @@ ghost use Rattle.std.specs.Coded.{Coded-set};
 ghost use Rattle.nb_eval.specs.Evaluation.{segment_end};
 
 impl Finished {
+    /// The segment with what it gives. It takes no memory.
     pub fn of(segment: Segment, end: RunEnd) -> Finished
         requires { end ≡ segment_end segment }
         ensures segment { result.segment ≡ segment }
@@ -39,6 +40,7 @@ impl Finished {
         &self.result
     }
 
+    /// What it gave, without its segment.
     pub fn into_result(self) -> RunEnd
         ensures same { result ≡ self.result }
         ensures is_run { result ≡ segment_end self.segment }
