@@ -1,0 +1,6 @@
+//! Who needs whom, over numbers: what is reached from some of them, which need themselves, and their ranks.
+#![tactic(auto)]
+
+mod graph;
+
+pub use graph::Graph;
