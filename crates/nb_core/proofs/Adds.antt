@@ -7,15 +7,15 @@ use Rattle.nb_value.specs.declared.pairs.Field.{Field}
 use Rattle.nb_syntax.specs.declared.tree.Cell.{Cell}
 use Rattle.nb_syntax.specs.Plain.{is_plain}
 use Rattle.nb_log.specs.Printing.{entry_size}
-use Rattle.nb_log.specs.declared.row.VarRow.{VarRow}
-use Rattle.nb_log.specs.declared.edit.Edit.TheVariants.{AddCell}
+use Rattle.nb_sheet.specs.declared.row.VarRow.{VarRow}
+use Rattle.nb_sheet.specs.declared.edit.Edit.TheVariants.{AddCell}
 use Rattle.nb_log.specs.declared.event.Event.{Event}
 use Rattle.nb_log.specs.declared.event.Event.TheVariants.{Edit as EditEvent}
 use Rattle.nb_log.specs.declared.entry.Refusal.{Refusal}
 use Rattle.nb_log.specs.declared.entry.Refusal.TheVariants.{LogFull, TooManyVariables}
 use Rattle.nb_log.specs.declared.entry.Entry.{Entry}
 use Rattle.nb_log.specs.declared.entry.Entry.TheVariants.{Edit, Refused}
-use Rattle.nb_history.specs.Lists.{nth}
+use Rattle.nb_sheet.specs.Lists.{nth}
 use Rattle.nb_history.specs.Reading.{Reading, Start}
 use Rattle.nb_history.specs.Log.{after, reading, nothing_yet, Fits, LegalFrom, IsQuiet, admit}
 use Rattle.nb_history.specs.Serial.{closing}

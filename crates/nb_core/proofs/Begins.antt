@@ -6,16 +6,19 @@ use Rattle.std.proofs.lemmas.Option.{same_Some}
 use Rattle.nb_value.specs.declared.value.Value.{Value}
 use Rattle.nb_value.specs.declared.pairs.Field.{Field}
 use Rattle.nb_log.specs.Printing.{entry_size}
-use Rattle.nb_log.specs.declared.row.VarRow.{VarRow}
+use Rattle.nb_sheet.specs.declared.row.VarRow.{VarRow}
 use Rattle.nb_log.specs.declared.entry.Entry.{Entry}
 use Rattle.nb_log.specs.declared.entry.Entry.TheVariants.{Pending}
-use Rattle.nb_history.specs.Lists.{has, nth, numbers, from_option, option_then, first_where}
-use Rattle.nb_history.specs.Names.{circular, needed, direct, is_defined, is_observed, is_root, needs}
+use Rattle.nb_graph.specs.Needs.{has}
+use Rattle.nb_sheet.specs.Lists.{nth, numbers, from_option, option_then}
+use Rattle.nb_history.specs.Lists.{first_where}
+use Rattle.nb_history.specs.Needs.{circular, needed, is_defined, is_observed, is_root, needs}
+use Rattle.nb_resolve.specs.Names.{direct}
 use Rattle.nb_history.specs.Reading.{Reading, Start, Footing, start_of, is_idle, owed}
 use Rattle.nb_history.specs.Rules.{wanted, leaving, due, is_behind, may_start, footing}
 use Rattle.nb_history.specs.Log.{after, new_start, reading, nothing_yet, LegalFrom, IsQuiet}
 use Rattle.nb_history.specs.Serial.{least_var, closing, Closes}
-use Rattle.nb_history.proofs.Reaches.{has_head, has_tail, needed_within, passing, passing_more, Same}
+use Rattle.nb_graph.proofs.Reaches.{has_head, has_tail, needed_within, passing, passing_more, Same}
 use Rattle.nb_history.proofs.Direct.{direct_within}
 use Rattle.nb_history.proofs.Closing.{range_has, number_has, has_number, nth_put_same, nth_put_other, length_put, nth_as_long, first_some, closing_pending, closing_none, quiet_from_none, Settled, settled_pending, is_since, may_start_cases}
 use Rattle.nb_history.proofs.Histories.{read_append, legal_append, ClosesTo, closes_push, closes_end}

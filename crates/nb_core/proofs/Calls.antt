@@ -8,10 +8,12 @@ use Rattle.nb_value.specs.declared.outcome.Outcome.{Outcome}
 use Rattle.nb_eval.specs.Work.{IsOf}
 use Rattle.nb_eval.specs.declared.work.Work.{Work}
 use Rattle.nb_eval.specs.declared.work.WorkDone.{WorkDone}
-use Rattle.nb_log.specs.declared.row.VarRow.{VarRow}
+use Rattle.nb_sheet.specs.declared.row.VarRow.{VarRow}
 use Rattle.nb_log.specs.declared.entry.Entry.{Entry}
-use Rattle.nb_history.specs.Lists.{nth, put, numbers, from_option, option_then, first_where}
-use Rattle.nb_history.specs.Names.{duplicate, circular}
+use Rattle.nb_sheet.specs.Lists.{nth, put, numbers, from_option, option_then}
+use Rattle.nb_history.specs.Lists.{first_where}
+use Rattle.nb_resolve.specs.Names.{duplicate}
+use Rattle.nb_history.specs.Needs.{circular}
 use Rattle.nb_history.specs.Reading.{Reading, Start, start_of, is_idle, shown}
 use Rattle.nb_history.specs.Rules.{ready, wanted, next, answers_of, pulls_of, scratch, body_of}
 use Rattle.nb_history.specs.Log.{reading, Rests}

@@ -13,8 +13,8 @@ use Rattle.nb_eval.specs.Evaluation.{Evaluated}
 use Rattle.nb_eval.specs.declared.given.Ending.{Ending}
 use Rattle.nb_eval.specs.declared.given.Ending.TheVariants.{Done, Failed}
 use Rattle.nb_eval.proofs.Endings.{EndsWell, ends, no_cleanups}
-use Rattle.nb_log.specs.declared.row.BodyOf.{BodyOf}
-use Rattle.nb_log.specs.declared.row.BodyOf.TheVariants.{Cell as CellBody, Import as ImportBody}
+use Rattle.nb_sheet.specs.declared.row.BodyOf.{BodyOf}
+use Rattle.nb_sheet.specs.declared.row.BodyOf.TheVariants.{Cell as CellBody, Import as ImportBody}
 use Rattle.nb_log.specs.declared.entry.Entry.{Entry}
 use Rattle.nb_history.specs.Rules.{run_body, generates, entry_of, outcome_of}
 use Rattle.nb_core.specs.State.{is_cell, ending_outcome, shown_entry}

@@ -11,12 +11,15 @@ use Rattle.nb_value.specs.declared.outcome.Outcome.{Outcome}
 use Rattle.nb_value.specs.declared.outcome.Outcome.TheVariants.{Value as Shows, Error as Fails}
 use Rattle.nb_eval.specs.Evaluation.{Evaluated}
 use Rattle.nb_log.specs.Printing.{entry_size}
-use Rattle.nb_log.specs.declared.row.VarRow.{VarRow}
-use Rattle.nb_log.specs.declared.row.BodyOf.{BodyOf}
+use Rattle.nb_sheet.specs.declared.row.VarRow.{VarRow}
+use Rattle.nb_sheet.specs.declared.row.BodyOf.{BodyOf}
 use Rattle.nb_log.specs.declared.entry.Entry.{Entry}
 use Rattle.nb_log.specs.declared.entry.Entry.TheVariants.{Fulfilled, Rejected}
-use Rattle.nb_history.specs.Lists.{has, nth, put, numbers, from_option, option_then, first_where}
-use Rattle.nb_history.specs.Names.{inputs, direct, circular, duplicate, needed}
+use Rattle.nb_graph.specs.Needs.{has}
+use Rattle.nb_sheet.specs.Lists.{nth, put, numbers, from_option, option_then}
+use Rattle.nb_history.specs.Lists.{first_where}
+use Rattle.nb_resolve.specs.Names.{inputs, direct, duplicate}
+use Rattle.nb_history.specs.Needs.{circular, needed}
 use Rattle.nb_history.specs.Reading.{Reading, Start, Footing, start_of, shown, renewal}
 use Rattle.nb_history.specs.Rules.{values_given, deciding_error, evaluated, evaluation, next, body_of, generates, answers_of, pulls_of, footing, is_behind, is_running, ready}
 use Rattle.nb_history.specs.Log.{after, showing, cleanups_now, ends_at_once, is_done, reading, nothing_yet, Fits, IsNext, IsQuiet, LegalFrom}

@@ -7,14 +7,17 @@ use Rattle.nb_value.specs.declared.pairs.Field.{Field}
 use Rattle.std.proofs.lemmas.Option.{none-some}
 use Rattle.nb_value.specs.declared.outcome.Outcome.{Outcome}
 use Rattle.nb_syntax.specs.declared.tree.Cell.{Cell}
-use Rattle.nb_log.specs.declared.row.VarRow.{VarRow}
-use Rattle.nb_log.specs.declared.edit.Edit.TheVariants.{AddCell}
+use Rattle.nb_sheet.specs.declared.row.VarRow.{VarRow}
+use Rattle.nb_sheet.specs.declared.edit.Edit.TheVariants.{AddCell}
 use Rattle.nb_log.specs.declared.event.Event.{Event}
 use Rattle.nb_log.specs.declared.entry.Refusal.{Refusal}
 use Rattle.nb_log.specs.declared.entry.Entry.{Entry}
 use Rattle.nb_log.specs.declared.entry.Entry.TheVariants.{Edit, Refused}
-use Rattle.nb_history.specs.Lists.{has, nth, put, numbers, from_option, option_then, first_where}
-use Rattle.nb_history.specs.Names.{duplicate, circular, direct}
+use Rattle.nb_graph.specs.Needs.{has}
+use Rattle.nb_sheet.specs.Lists.{nth, put, numbers, from_option, option_then}
+use Rattle.nb_history.specs.Lists.{first_where}
+use Rattle.nb_resolve.specs.Names.{duplicate, direct}
+use Rattle.nb_history.specs.Needs.{circular}
 use Rattle.nb_history.specs.Reading.{Reading, Start, shown}
 use Rattle.nb_history.specs.Rules.{ready, is_running, next}
 use Rattle.nb_history.specs.Log.{reading, nothing_yet, after, admit}
@@ -22,7 +25,7 @@ use Rattle.nb_history.specs.Serial.{least_var, closing, Closes}
 use Rattle.nb_history.specs.History.{History, standing, IsClosedHistory}
 use Rattle.nb_history.proofs.Closing.{nth_as_long, has_number, nth_put_same, nth_put_other}
 use Rattle.nb_history.proofs.Histories.{read_append}
-use Rattle.nb_history.proofs.Reaches.{passing, passing_more, Same}
+use Rattle.nb_graph.proofs.Reaches.{passing, passing_more, Same}
 use Rattle.nb_core.specs.State.{at as at_rows, sheet_of, may_begin, row_of, next_outcome, shown_entry, showing_start, ready_in, IsState, IsCore, IsClosed}
 use Rattle.nb_core.specs.Core.{Gains, running}
 use Rattle.nb_core.proofs.States.{of_log}

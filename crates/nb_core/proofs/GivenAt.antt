@@ -9,14 +9,15 @@ use Rattle.nb_value.specs.declared.outcome.Outcome.{Outcome}
 use Rattle.nb_value.specs.declared.outcome.Outcome.TheVariants.{Error as Fails}
 use Rattle.nb_eval.specs.declared.work.Work.{Work}
 use Rattle.nb_eval.specs.declared.work.Work.TheVariants.{Direct, Run}
-use Rattle.nb_log.specs.declared.row.BodyOf.{BodyOf}
-use Rattle.nb_log.specs.declared.row.BodyOf.TheVariants.{Cell as CellBody, Import as ImportBody}
-use Rattle.nb_log.specs.declared.row.VarRow.{VarRow}
-use Rattle.nb_history.specs.declared.resolution.Resolution.{Resolution}
-use Rattle.nb_history.specs.declared.resolution.Resolution.TheVariants.{Var, Builtin, Twice, Missing}
-use Rattle.nb_history.specs.Lists.{Name, nth, from_option, option_then, or_else}
-use Rattle.nb_history.specs.Sheet.{Sheet}
-use Rattle.nb_history.specs.Names.{duplicate, circular, inputs, inputs_of_row}
+use Rattle.nb_sheet.specs.declared.row.BodyOf.{BodyOf}
+use Rattle.nb_sheet.specs.declared.row.BodyOf.TheVariants.{Cell as CellBody, Import as ImportBody}
+use Rattle.nb_sheet.specs.declared.row.VarRow.{VarRow}
+use Rattle.nb_resolve.specs.declared.resolution.Resolution.{Resolution}
+use Rattle.nb_resolve.specs.declared.resolution.Resolution.TheVariants.{Var, Builtin, Twice, Missing}
+use Rattle.nb_sheet.specs.Lists.{Name, nth, from_option, option_then, or_else}
+use Rattle.nb_sheet.specs.Sheet.{Sheet}
+use Rattle.nb_resolve.specs.Names.{duplicate, inputs, inputs_of_row}
+use Rattle.nb_history.specs.Needs.{circular}
 use Rattle.nb_history.specs.Reading.{Start, shown}
 use Rattle.nb_history.specs.Rules.{given, first_error, plain_error, value_given, values_given, marked_error, deciding_error, name_of, body_of, answers_of, pulls_of}
 use Rattle.nb_core.specs.Core.{values_of, body_work, work_of}

@@ -6,15 +6,16 @@ use Rattle.std.proofs.lemmas.Bool.{cases_Bool, false≢true, eq-eqb, le-leb, fal
 use Rattle.nb_value.specs.declared.value.Value.{Value}
 use Rattle.nb_value.specs.declared.pairs.Field.{Field}
 use Rattle.nb_value.specs.declared.outcome.Outcome.{Outcome}
-use Rattle.nb_log.specs.declared.row.VarRow.{VarRow}
+use Rattle.nb_sheet.specs.declared.row.VarRow.{VarRow}
 use Rattle.nb_log.specs.declared.entry.Entry.{Entry}
-use Rattle.nb_history.specs.Lists.{Name, nth, from_option, option_then}
-use Rattle.nb_history.specs.Names.{inputs, direct, circular, duplicate, variable_of}
+use Rattle.nb_sheet.specs.Lists.{Name, nth, from_option, option_then}
+use Rattle.nb_resolve.specs.Names.{inputs, direct, duplicate, variable_of}
+use Rattle.nb_history.specs.Needs.{circular}
 use Rattle.nb_history.specs.Reading.{Reading, Start, Footing, start_of, is_idle, shown}
 use Rattle.nb_history.specs.Rules.{wanted, is_behind, is_running, ready, footing, same_footing, input_code}
 use Rattle.nb_history.specs.Log.{reading, IsQuiet}
-use Rattle.nb_history.specs.declared.resolution.Resolution.{Resolution}
-use Rattle.nb_history.specs.declared.resolution.Resolution.TheVariants.{Var, Builtin, Twice, Missing}
+use Rattle.nb_resolve.specs.declared.resolution.Resolution.{Resolution}
+use Rattle.nb_resolve.specs.declared.resolution.Resolution.TheVariants.{Var, Builtin, Twice, Missing}
 use Rattle.nb_core.specs.State.{at as at_rows, sheet_of, shown_in, is_var_code, code_shows, ready_start, ready_in, started_in, IsState, IsCore}
 use Rattle.nb_core.proofs.States.{of_log}
 use Rattle.nb_core.proofs.LocalAdds.{not_behind}

@@ -11,17 +11,19 @@ use Rattle.nb_value.specs.declared.outcome.ErrorKind.TheVariants.{DefinedTwice, 
 use Rattle.nb_value.specs.declared.outcome.Outcome.{Outcome}
 use Rattle.nb_value.specs.declared.outcome.Outcome.TheVariants.{Value as Shows, Error as Fails}
 use Rattle.nb_eval.specs.Evaluation.{Evaluated}
-use Rattle.nb_log.specs.declared.row.BodyOf.{BodyOf}
-use Rattle.nb_log.specs.declared.row.BodyOf.TheVariants.{Cell as CellBody, Import as ImportBody}
-use Rattle.nb_log.specs.declared.row.VarRow.{VarRow}
-use Rattle.nb_history.specs.Lists.{Name, has, nth, put, from_option, option_then, or_else}
-use Rattle.nb_history.specs.Sheet.{Sheet}
-use Rattle.nb_history.specs.Names.{inputs, direct, circular, duplicate, needed, resolve, inputs_of_body, inputs_of_row, is_duplicate_row, variable_of}
+use Rattle.nb_sheet.specs.declared.row.BodyOf.{BodyOf}
+use Rattle.nb_sheet.specs.declared.row.BodyOf.TheVariants.{Cell as CellBody, Import as ImportBody}
+use Rattle.nb_sheet.specs.declared.row.VarRow.{VarRow}
+use Rattle.nb_sheet.specs.Lists.{Name, nth, put, from_option, option_then, or_else}
+use Rattle.nb_graph.specs.Needs.{has}
+use Rattle.nb_sheet.specs.Sheet.{Sheet}
+use Rattle.nb_resolve.specs.Names.{inputs, direct, duplicate, resolve, inputs_of_body, inputs_of_row, is_duplicate_row, variable_of}
+use Rattle.nb_history.specs.Needs.{circular, needed}
 use Rattle.nb_history.specs.Reading.{Reading, Start, Footing, start_of, shown, renewal}
 use Rattle.nb_history.specs.Rules.{given, values_given, first_error, marked_error, body_of, generates, run_body, outcome_of, unmarked_value, local_value, footing, is_behind, same_footing, plain_error, name_of, input_code, resolution_code}
 use Rattle.nb_history.specs.Log.{new_start}
-use Rattle.nb_history.specs.declared.resolution.Resolution.{Resolution}
-use Rattle.nb_history.proofs.Reaches.{has_head, has_tail, has_cases}
+use Rattle.nb_resolve.specs.declared.resolution.Resolution.{Resolution}
+use Rattle.nb_graph.proofs.Reaches.{has_head, has_tail, has_cases}
 use Rattle.nb_history.proofs.Footings.{same_footing_eq, code_eq}
 use Rattle.nb_history.proofs.Closing.{nth_put_same, nth_put_other, nth_as_long, footing_agree, behind_by, needs_direct}
 use Rattle.nb_history.proofs.Scratches.{local_agree, not_circular}

@@ -8,10 +8,11 @@ use Rattle.nb_value.specs.declared.outcome.CellError.{CellError}
 use Rattle.nb_value.specs.declared.outcome.ErrorKind.TheVariants.{DefinedTwice, Circular}
 use Rattle.nb_value.specs.declared.outcome.Outcome.{Outcome}
 use Rattle.nb_value.specs.declared.outcome.Outcome.TheVariants.{Error as Fails}
-use Rattle.nb_log.specs.declared.row.VarRow.{VarRow}
+use Rattle.nb_sheet.specs.declared.row.VarRow.{VarRow}
 use Rattle.nb_log.specs.declared.entry.Entry.{Entry}
-use Rattle.nb_history.specs.Lists.{nth, from_option, option_then}
-use Rattle.nb_history.specs.Names.{inputs, direct, circular, duplicate}
+use Rattle.nb_sheet.specs.Lists.{nth, from_option, option_then}
+use Rattle.nb_resolve.specs.Names.{inputs, direct, duplicate}
+use Rattle.nb_history.specs.Needs.{circular}
 use Rattle.nb_history.specs.Reading.{Reading, Start, shown}
 use Rattle.nb_history.specs.Rules.{wanted, is_behind, is_running, ready, given, first_error, evaluated_outcome, waits, unmarked_value, local_value, marked_error, plain_error, name_of, footing, same_footing, scratch}
 use Rattle.nb_history.specs.Log.{reading, Rests}

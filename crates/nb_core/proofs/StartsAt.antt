@@ -5,10 +5,11 @@ use Rattle.std.proofs.lemmas.Bool.{cases_Bool, false≢true, false_from_ne_true}
 use Rattle.std.specs.List.{range_with_len}
 use Rattle.std.proofs.Common.{add-one}
 use Rattle.std.proofs.lemmas.Option.{none-some}
-use Rattle.nb_history.specs.Lists.{first_where, nth, from_option, option_then}
+use Rattle.nb_history.specs.Lists.{first_where}
+use Rattle.nb_sheet.specs.Lists.{nth, from_option, option_then}
 use Rattle.nb_history.specs.Reading.{Reading, Start, Footing}
 use Rattle.nb_history.specs.Rules.{footing, is_behind, same_footing}
-use Rattle.nb_log.specs.declared.row.VarRow.{VarRow}
+use Rattle.nb_sheet.specs.declared.row.VarRow.{VarRow}
 use Rattle.nb_history.proofs.Footings.{same_footing_eq, same_footing_refl}
 use Rattle.nb_value.specs.declared.value.Value.{Value}
 use Rattle.nb_value.specs.declared.pairs.Field.{Field}

@@ -5,12 +5,14 @@ use Rattle.std.specs.List.{filter, filter_map, list_any, range_with_len}
 use Rattle.std.proofs.lemmas.List.{take_more}
 use Rattle.std.proofs.lemmas.List.FromFn.{length-range_with_len, length-map-range_with_len, get_or-map-range_with_len, map-range_with_len_more}
 use Rattle.std.proofs.lemmas.Bool.{cases_lt, ne_eqb, eq-eqb}
-use Rattle.nb_log.specs.declared.row.VarRow.{VarRow}
-use Rattle.nb_history.specs.declared.resolution.Resolution.{Resolution}
-use Rattle.nb_history.specs.Lists.{Name, has, nth, numbers, from_option}
-use Rattle.nb_history.specs.Reach.{grown, rounds}
-use Rattle.nb_history.specs.Sheet.{Sheet}
-use Rattle.nb_history.specs.Names.{direct, needed, duplicate, circular, inputs, inputs_of_row, is_duplicate_row, variable_of}
+use Rattle.nb_sheet.specs.declared.row.VarRow.{VarRow}
+use Rattle.nb_resolve.specs.declared.resolution.Resolution.{Resolution}
+use Rattle.nb_sheet.specs.Lists.{Name, nth, numbers, from_option}
+use Rattle.nb_graph.specs.Needs.{has}
+use Rattle.nb_graph.specs.Needs.{grown, rounds}
+use Rattle.nb_sheet.specs.Sheet.{Sheet}
+use Rattle.nb_resolve.specs.Names.{direct, duplicate, inputs, inputs_of_row, is_duplicate_row, variable_of}
+use Rattle.nb_history.specs.Needs.{needed, circular}
 use Rattle.nb_history.specs.Rules.{input_code}
 use Rattle.nb_core.specs.Scan.{needs_in, reaches, marked_from, numbers_marked}
 use Rattle.nb_core.specs.State.{Ties, ties_of, all_ties}

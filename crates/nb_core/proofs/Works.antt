@@ -15,10 +15,10 @@ use Rattle.nb_eval.specs.declared.work.Work.{Work}
 use Rattle.nb_eval.specs.declared.work.Work.TheVariants.{Direct, Run}
 use Rattle.nb_eval.specs.declared.work.WorkDone.{WorkDone}
 use Rattle.nb_eval.specs.declared.work.WorkDone.TheVariants.{Direct as DirectDone, Ran}
-use Rattle.nb_log.specs.declared.row.BodyOf.{BodyOf}
-use Rattle.nb_log.specs.declared.row.BodyOf.TheVariants.{Cell as CellBody, Import as ImportBody}
-use Rattle.nb_history.specs.Lists.{from_option}
-use Rattle.nb_history.specs.Names.{inputs}
+use Rattle.nb_sheet.specs.declared.row.BodyOf.{BodyOf}
+use Rattle.nb_sheet.specs.declared.row.BodyOf.TheVariants.{Cell as CellBody, Import as ImportBody}
+use Rattle.nb_sheet.specs.Lists.{from_option}
+use Rattle.nb_resolve.specs.Names.{inputs}
 use Rattle.nb_history.specs.Reading.{Reading, shown}
 use Rattle.nb_history.specs.Rules.{deciding_error, body_of, evaluation, values_given, run_body, answers_of, pulls_of}
 use Rattle.nb_core.specs.State.{is_cell, ending_outcome, next_outcome}

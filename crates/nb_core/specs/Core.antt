@@ -14,16 +14,16 @@ use Rattle.nb_eval.specs.declared.work.Work.TheVariants.{Direct, Run}
 use Rattle.nb_eval.specs.declared.work.WorkDone.{WorkDone}
 use Rattle.nb_eval.specs.declared.work.WorkDone.TheVariants.{Direct as DirectDone, Ran}
 use Rattle.nb_eval.specs.Work.{IsOf}
-use Rattle.nb_log.specs.declared.row.BodyOf.{BodyOf}
-use Rattle.nb_log.specs.declared.row.BodyOf.TheVariants.{Cell as CellBody, Import as ImportBody}
-use Rattle.nb_log.specs.declared.edit.Edit.{Edit}
-use Rattle.nb_log.specs.declared.edit.Edit.TheVariants.{AddCell}
+use Rattle.nb_sheet.specs.declared.row.BodyOf.{BodyOf}
+use Rattle.nb_sheet.specs.declared.row.BodyOf.TheVariants.{Cell as CellBody, Import as ImportBody}
+use Rattle.nb_sheet.specs.declared.edit.Edit.{Edit}
+use Rattle.nb_sheet.specs.declared.edit.Edit.TheVariants.{AddCell}
 use Rattle.nb_log.specs.declared.event.Event.{Event}
 use Rattle.nb_log.specs.declared.event.Event.TheVariants.{Edit as EditEvent}
 use Rattle.nb_log.specs.declared.entry.Entry.{Entry}
 use Rattle.nb_log.specs.declared.entry.Entry.TheVariants.{Edit as EditEntry}
-use Rattle.nb_history.specs.Lists.{Name, from_option, numbers}
-use Rattle.nb_history.specs.Names.{inputs}
+use Rattle.nb_sheet.specs.Lists.{Name, from_option, numbers}
+use Rattle.nb_resolve.specs.Names.{inputs}
 use Rattle.nb_history.specs.Reading.{Reading, Start, start_of, is_idle, shown}
 use Rattle.nb_history.specs.Rules.{deciding_error, body_of, values_given, first_value, answers_of, pulls_of, ready, is_running, next}
 use Rattle.nb_history.specs.Log.{after, admit, Rests}

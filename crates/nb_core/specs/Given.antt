@@ -9,10 +9,10 @@ use Rattle.nb_value.specs.declared.outcome.Outcome.{Outcome}
 use Rattle.nb_value.specs.declared.outcome.Outcome.TheVariants.{Value as Shows, Error as Fails}
 use Rattle.nb_eval.specs.declared.work.Work.{Work}
 use Rattle.nb_eval.specs.declared.work.Work.TheVariants.{Direct, Run}
-use Rattle.nb_log.specs.declared.row.BodyOf.{BodyOf}
-use Rattle.nb_log.specs.declared.row.BodyOf.TheVariants.{Cell as CellBody, Import as ImportBody}
-use Rattle.nb_history.specs.declared.resolution.Resolution.{Resolution}
-use Rattle.nb_history.specs.Lists.{Name, from_option}
+use Rattle.nb_sheet.specs.declared.row.BodyOf.{BodyOf}
+use Rattle.nb_sheet.specs.declared.row.BodyOf.TheVariants.{Cell as CellBody, Import as ImportBody}
+use Rattle.nb_resolve.specs.declared.resolution.Resolution.{Resolution}
+use Rattle.nb_sheet.specs.Lists.{Name, from_option}
 use Rattle.nb_history.specs.Reading.{Start}
 use Rattle.nb_history.specs.Rules.{given, first_error, plain_error, values_given, first_value}
 use Rattle.nb_core.specs.State.{sheet_of, shown_in}

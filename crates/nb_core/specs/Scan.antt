@@ -4,11 +4,12 @@ use Rattle.std.specs.List.{list_any, position_from}
 use Rattle.std.specs.Str.{bytes_eq}
 use Rattle.nb_value.specs.declared.value.Value.{Value}
 use Rattle.nb_value.specs.declared.pairs.Field.{Field}
-use Rattle.nb_log.specs.declared.row.VarRow.{VarRow}
-use Rattle.nb_history.specs.declared.resolution.Resolution.{Resolution}
-use Rattle.nb_history.specs.declared.resolution.Resolution.TheVariants.{Var, Builtin, Twice, Missing}
-use Rattle.nb_history.specs.Lists.{Name, has, is_name, nth, numbers_from, from_option}
-use Rattle.nb_history.specs.Names.{resolved}
+use Rattle.nb_sheet.specs.declared.row.VarRow.{VarRow}
+use Rattle.nb_resolve.specs.declared.resolution.Resolution.{Resolution}
+use Rattle.nb_resolve.specs.declared.resolution.Resolution.TheVariants.{Var, Builtin, Twice, Missing}
+use Rattle.nb_sheet.specs.Lists.{Name, is_name, nth, numbers_from, from_option}
+use Rattle.nb_graph.specs.Needs.{has}
+use Rattle.nb_resolve.specs.Names.{resolved}
 
 -- ---- names
 

@@ -11,14 +11,16 @@ use Rattle.nb_eval.specs.declared.given.Ending.{Ending}
 use Rattle.nb_eval.specs.declared.given.Ending.TheVariants.{Paused, Needs, Done, Failed}
 use Rattle.nb_syntax.specs.declared.tree.Cell.{Cell}
 use Rattle.nb_syntax.specs.Plain.{is_plain}
-use Rattle.nb_log.specs.declared.row.BodyOf.{BodyOf}
-use Rattle.nb_log.specs.declared.row.BodyOf.TheVariants.{Cell as CellBody, Import as ImportBody}
-use Rattle.nb_log.specs.declared.row.VarRow.{VarRow}
+use Rattle.nb_sheet.specs.declared.row.BodyOf.{BodyOf}
+use Rattle.nb_sheet.specs.declared.row.BodyOf.TheVariants.{Cell as CellBody, Import as ImportBody}
+use Rattle.nb_sheet.specs.declared.row.VarRow.{VarRow}
 use Rattle.nb_log.specs.declared.entry.Entry.{Entry}
 use Rattle.nb_log.specs.declared.entry.Entry.TheVariants.{Fulfilled, Rejected}
-use Rattle.nb_history.specs.Lists.{nth, put, has, from_option, numbers}
-use Rattle.nb_history.specs.Sheet.{Sheet}
-use Rattle.nb_history.specs.Names.{inputs, direct, duplicate, circular, needed}
+use Rattle.nb_sheet.specs.Lists.{nth, put, from_option, numbers}
+use Rattle.nb_graph.specs.Needs.{has}
+use Rattle.nb_sheet.specs.Sheet.{Sheet}
+use Rattle.nb_resolve.specs.Names.{inputs, direct, duplicate}
+use Rattle.nb_history.specs.Needs.{circular, needed}
 use Rattle.nb_history.specs.Reading.{Reading, Start, start_of, is_idle, renewal, shown}
 use Rattle.nb_history.specs.Rules.{is_behind, footing, input_code, marked_error, local_value, evaluation, deciding_error}
 use Rattle.nb_history.specs.Log.{reading, IsLegal, IsQuiet, new_start}

@@ -1,5 +1,5 @@
 ghost use Rattle.std.specs.Prelude.{◌≡◌, ◌≤◌, ◌<◌, ◌^◌, ◌++◌, ◌∷◌, [], true, List, None, length, IfOk, OnOk, OnErr};
-ghost use Rattle.nb_log.specs.declared.edit.Edit.{Edit as EditValue};
+ghost use Rattle.nb_sheet.specs.declared.edit.Edit.{Edit as EditValue};
 ghost use Rattle.nb_log.specs.declared.entry.Entry.{Entry as EntryValue};
 ghost use Rattle.nb_core.specs.State.{row_of, IsState, IsClosed};
 ghost use Rattle.nb_core.specs.Core.{IsAddedCell};

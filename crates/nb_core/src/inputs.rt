@@ -1,7 +1,8 @@
 ghost use Rattle.std.specs.Prelude.{◌≡◌, ◌≤◌, ◌<◌, [], ◌∷◌, Some, length, IfOk};
 ghost use Rattle.std.specs.Option.{option_copied};
-ghost use Rattle.nb_history.specs.Lists.{from_option, or_else};
-ghost use Rattle.nb_history.specs.Names.{duplicate, circular};
+ghost use Rattle.nb_sheet.specs.Lists.{from_option, or_else};
+ghost use Rattle.nb_resolve.specs.Names.{duplicate};
+ghost use Rattle.nb_history.specs.Needs.{circular};
 ghost use Rattle.nb_history.specs.Rules.{plain_error, through_input, first_error as first_error_of, value_given, first_value, answers_of, pulls_of};
 ghost use Rattle.nb_core.specs.Core.{work_of};
 ghost use Rattle.nb_core.specs.Given.{given_in, error_in, first_error_in, values_in, builtin_value as builtin_value_of, marked_by, first_work};

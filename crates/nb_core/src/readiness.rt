@@ -1,6 +1,7 @@
 ghost use Rattle.std.specs.Prelude.{◌≡◌, ◌≤◌, ◌<◌, [], is_some, length};
 ghost use Rattle.std.specs.List.{list_all};
-ghost use Rattle.nb_history.specs.Lists.{first_where, numbers};
+ghost use Rattle.nb_history.specs.Lists.{first_where};
+ghost use Rattle.nb_sheet.specs.Lists.{numbers};
 ghost use Rattle.nb_core.specs.Core.{ShownIs};
 ghost use Rattle.nb_core.specs.State.{at, shown_in, started_in, code_shows, ready_start, ready_in, number_in, marks_in, show_all, ShowsAt};
 

@@ -1,7 +1,8 @@
 ghost use Rattle.std.specs.Prelude.{◌≡◌, ◌≤◌, ◌<◌, ◌↔◌, IsTrue, [], cond, length, IfOk, map};
 ghost use Rattle.std.specs.List.{list_any};
 ghost use Rattle.std.specs.Option.{option_copied};
-ghost use Rattle.nb_history.specs.Lists.{first_where, numbers};
+ghost use Rattle.nb_history.specs.Lists.{first_where};
+ghost use Rattle.nb_sheet.specs.Lists.{numbers};
 ghost use Rattle.nb_history.specs.Rules.{footing as footing_of, is_behind as is_behind_of};
 ghost use Rattle.nb_history.specs.Log.{new_start};
 ghost use Rattle.nb_core.specs.State.{at, sheet_of, all_ties as ties_of_all, renewal_in, showing_start, may_begin as begins_of};

@@ -1,8 +1,9 @@
 ghost use Rattle.std.specs.Prelude.{◌≡◌, ◌≤◌, ◌<◌, ◌+◌, ◌↔◌, IsTrue, length, IfOk, map};
 ghost use Rattle.std.specs.List.{range_with_len};
-ghost use Rattle.nb_history.specs.Lists.{has, numbers};
-ghost use Rattle.nb_history.specs.Reach.{grown, rounds};
-ghost use Rattle.nb_history.specs.Names.{direct as direct_of};
+ghost use Rattle.nb_graph.specs.Needs.{has};
+ghost use Rattle.nb_sheet.specs.Lists.{numbers};
+ghost use Rattle.nb_graph.specs.Needs.{grown, rounds};
+ghost use Rattle.nb_resolve.specs.Names.{direct as direct_of};
 ghost use Rattle.nb_history.specs.Rules.{input_code};
 ghost use Rattle.nb_core.specs.Scan.{needs_in, reaches, marked_from, numbers_marked};
 ghost use Rattle.nb_core.specs.State.{sheet_of, ties_of, all_ties as ties_of_all};

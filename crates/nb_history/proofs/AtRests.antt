@@ -5,7 +5,8 @@ use Rattle.std.proofs.lemmas.Option.{some_pair_parts, none-some}
 use Rattle.nb_value.specs.declared.value.Value.{Value}
 use Rattle.nb_value.specs.declared.pairs.Field.{Field}
 use Rattle.nb_log.specs.declared.entry.Entry.{Entry}
-use Rattle.nb_history.specs.Lists.{or_else, option_then, numbers, first_where}
+use Rattle.nb_sheet.specs.Lists.{or_else, option_then, numbers}
+use Rattle.nb_history.specs.Lists.{first_where}
 use Rattle.nb_history.specs.Reading.{Reading}
 use Rattle.nb_history.specs.Rules.{leaving, ready, may_start, next}
 use Rattle.nb_history.specs.Log.{nothing_yet, after, reading, read_from, Rests, IsQuiet, RestsAfter}

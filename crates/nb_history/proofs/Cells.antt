@@ -3,7 +3,7 @@ use Rattle.std.specs.Prelude.{ℕ, ℤ, pos, ◌≡◌, refl, Bool, ◌+◌, Lis
 use Rattle.nb_log.specs.Printing.{entry_size, kind_name}
 use Rattle.nb_syntax.specs.Print.{cell_text}
 use Rattle.nb_value.specs.declared.outcome.ErrorKind.{ErrorKind}
-use Rattle.nb_log.specs.declared.edit.Edit.TheVariants.{AddCell, Define, Delete}
+use Rattle.nb_sheet.specs.declared.edit.Edit.TheVariants.{AddCell, Define, Delete}
 use Rattle.nb_log.specs.declared.entry.Entry.TheVariants.{Edit, Pending, Fulfilled, Rejected, Left}
 use Rattle.std.proofs.Common.{arith, ap, sym, ◌∙◌}
 use Rattle.nb_value.specs.declared.value.Value.{Value}

@@ -3,17 +3,20 @@ use Rattle.std.proofs.Common.{ℕ, zero, suc, ◌≡◌, ◌≢◌, ◌+◌, ◌
 use Rattle.std.specs.Prelude.{slice_get}
 use Rattle.std.specs.List.{list_any, range_with_len}
 use Rattle.std.proofs.lemmas.Bool.{or_cases, or_left, or_right, and_parts, and_from, and_right, cases_Bool, cases_eq, cases_lt, false≢true, false_from_ne_true, not-true}
-use Rattle.nb_history.specs.Lists.{has, nth, put, put_at, numbers, from_option, option_then, first_where}
-use Rattle.nb_history.specs.Sheet.{Sheet}
-use Rattle.nb_history.specs.Names.{direct, circular, needed, needs, duplicate, inputs, is_used, is_defined, is_observed, is_root}
+use Rattle.nb_graph.specs.Needs.{has}
+use Rattle.nb_sheet.specs.Lists.{nth, put, put_at, numbers, from_option, option_then}
+use Rattle.nb_history.specs.Lists.{first_where}
+use Rattle.nb_sheet.specs.Sheet.{Sheet}
+use Rattle.nb_resolve.specs.Names.{direct, duplicate, inputs}
+use Rattle.nb_history.specs.Needs.{circular, needed, needs, is_used, is_defined, is_observed, is_root}
 use Rattle.nb_history.specs.Reading.{Reading, Start, Footing, start_of, is_idle, renewal, owed}
 use Rattle.nb_history.specs.Rules.{place_of, footing, same_footing, wanted, leaving, is_behind, due, may_start, input_code}
 use Rattle.nb_history.specs.Log.{after, new_start, IsQuiet}
 use Rattle.nb_history.specs.Serial.{least_var, closing}
 use Rattle.nb_value.specs.declared.value.Value.{Value}
-use Rattle.nb_log.specs.declared.row.VarRow.{VarRow}
+use Rattle.nb_sheet.specs.declared.row.VarRow.{VarRow}
 use Rattle.nb_log.specs.declared.entry.Entry.TheVariants.{Pending, Left}
-use Rattle.nb_history.proofs.Reaches.{has_head, has_tail, has_cases, any_has, has_any, passing, needed_direct, needed_step, needed_fewer}
+use Rattle.nb_graph.proofs.Reaches.{has_head, has_tail, has_cases, any_has, has_any, passing, needed_direct, needed_step, needed_fewer}
 use Rattle.nb_history.proofs.Direct.{direct_within}
 use Rattle.nb_history.proofs.Footings.{same_footing_refl}
 

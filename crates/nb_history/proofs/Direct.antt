@@ -2,19 +2,20 @@
 use Rattle.std.proofs.Common.{ℕ, ◌≡◌, ◌+◌, refl, ap, Bool, true, ◌&&◌, ◌⊎◌, inl, inr, eqb, List, [], ◌∷◌, map, length, Option, Some, None}
 use Rattle.std.specs.List.{filter_map, cons_option, range_with_len, position_from}
 use Rattle.std.proofs.lemmas.Bool.{cases_Bool, false≢true}
-use Rattle.nb_history.specs.Lists.{Name, has, nth, numbers, numbers_from, is_name, from_option}
+use Rattle.nb_sheet.specs.Lists.{Name, nth, numbers, numbers_from, is_name, from_option}
+use Rattle.nb_graph.specs.Needs.{has}
 use Rattle.std.specs.Str.{bytes_eq}
 use Rattle.nb_value.specs.declared.pairs.Field.{Field}
 use Rattle.nb_syntax.specs.FreeNames.{free}
-use Rattle.nb_history.specs.Sheet.{Sheet, named}
-use Rattle.nb_history.specs.Names.{resolve, resolved, inputs_of_row, inputs_of_body, is_duplicate_row, direct, variable_of}
+use Rattle.nb_sheet.specs.Sheet.{Sheet, named}
+use Rattle.nb_resolve.specs.Names.{resolve, resolved, inputs_of_row, inputs_of_body, is_duplicate_row, direct, variable_of}
 use Rattle.nb_value.specs.declared.value.Value.{Value}
-use Rattle.nb_log.specs.declared.row.BodyOf.{BodyOf}
-use Rattle.nb_log.specs.declared.row.BodyOf.TheVariants.{Cell as CellBody, Import as ImportBody}
-use Rattle.nb_log.specs.declared.row.VarRow.{VarRow}
-use Rattle.nb_history.specs.declared.resolution.Resolution.{Resolution}
-use Rattle.nb_history.specs.declared.resolution.Resolution.TheVariants.{Var, Builtin, Twice, Missing}
-use Rattle.nb_history.proofs.Reaches.{has_head, has_tail, has_cases, Within}
+use Rattle.nb_sheet.specs.declared.row.BodyOf.{BodyOf}
+use Rattle.nb_sheet.specs.declared.row.BodyOf.TheVariants.{Cell as CellBody, Import as ImportBody}
+use Rattle.nb_sheet.specs.declared.row.VarRow.{VarRow}
+use Rattle.nb_resolve.specs.declared.resolution.Resolution.{Resolution}
+use Rattle.nb_resolve.specs.declared.resolution.Resolution.TheVariants.{Var, Builtin, Twice, Missing}
+use Rattle.nb_graph.proofs.Reaches.{has_head, has_tail, has_cases, Within}
 
 -- u is the one variable of some module that has some name
 pub record OneNamed (s : Sheet) (u : ℕ) : Type 0 where

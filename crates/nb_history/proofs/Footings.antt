@@ -4,8 +4,8 @@ use Rattle.std.proofs.lemmas.Bool.{and_parts, and_from, eqb-true, eq-eqb, false�
 use Rattle.nb_history.specs.Lists.{same_bool, same_numbers}
 use Rattle.nb_history.specs.Reading.{Footing}
 use Rattle.nb_history.specs.Rules.{resolution_code, same_footing}
-use Rattle.nb_history.specs.declared.resolution.Resolution.{Resolution}
-use Rattle.nb_history.specs.declared.resolution.Resolution.TheVariants.{Var, Builtin, Twice, Missing}
+use Rattle.nb_resolve.specs.declared.resolution.Resolution.{Resolution}
+use Rattle.nb_resolve.specs.declared.resolution.Resolution.TheVariants.{Var, Builtin, Twice, Missing}
 
 same_bool_eq : (a b : Bool) → same_bool a b ≡ true → a ≡ b
 same_bool_eq true b h = sym h

@@ -4,7 +4,8 @@ use Rattle.std.proofs.lemmas.Option.{some_pair_parts, none-some, same_Some}
 use Rattle.std.proofs.lemmas.Bool.{and_right}
 use Rattle.std.specs.List.{list_any}
 use Rattle.std.specs.Str.{bytes_eq}
-use Rattle.nb_history.specs.Lists.{Name, nth, from_option, numbers, first_where}
+use Rattle.nb_sheet.specs.Lists.{Name, nth, from_option, numbers}
+use Rattle.nb_history.specs.Lists.{first_where}
 use Rattle.nb_history.specs.Reading.{Reading, Ticket, owed}
 use Rattle.nb_history.specs.Rules.{leaving, ready, may_start, next}
 use Rattle.nb_history.specs.Log.{after, read_from, Fits, LegalFrom, admit, is_live}

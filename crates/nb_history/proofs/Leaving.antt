@@ -1,8 +1,9 @@
 -- A `left` entry makes nothing due, and no other variable leave.
 use Rattle.std.proofs.Common.{inl, inr, ℕ, ◌≡◌, ◌≢◌, sym, ◌∙◌, ap, Bool, true, false, not, ◌&&◌, List, Option, Some, None}
 use Rattle.std.proofs.lemmas.Bool.{cases_Bool, false≢true, and_parts, and_left, and_right, not-true}
-use Rattle.nb_history.specs.Lists.{has, nth, from_option, option_then}
-use Rattle.nb_history.specs.Names.{direct}
+use Rattle.nb_graph.specs.Needs.{has}
+use Rattle.nb_sheet.specs.Lists.{nth, from_option, option_then}
+use Rattle.nb_resolve.specs.Names.{direct}
 use Rattle.nb_history.specs.Reading.{Reading, Start, Footing, start_of, is_idle, renewal}
 use Rattle.nb_history.specs.Rules.{wanted, leaving, is_behind, due, footing}
 use Rattle.nb_history.specs.Log.{after}

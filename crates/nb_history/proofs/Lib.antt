@@ -1,4 +1,3 @@
-pub mod Reaches
 pub mod Direct
 pub mod Footings
 pub mod Closing

@@ -14,11 +14,11 @@ use Rattle.nb_value.specs.declared.value.Value.TheFolds.{fold-roll-Value}
 use Rattle.nb_value.proofs.JsonLaws.{json_data-List, json_data-Rec}
 use Rattle.nb_log.specs.Printing.{entry_size, entry_value, line_text, table_value, done_value}
 use Rattle.nb_log.specs.declared.entry.Entry.TheVariants.{Edit as EditEntry, Pending}
-use Rattle.nb_log.specs.declared.edit.Edit.TheVariants.{Define}
+use Rattle.nb_sheet.specs.declared.edit.Edit.TheVariants.{Define}
 use Rattle.nb_log.specs.declared.event.Event.TheVariants.{Edit as EditEvent}
 use Rattle.nb_history.specs.Edited.{TakesTurns}
 use Rattle.nb_log.specs.declared.entry.Entry.{Entry}
-use Rattle.nb_log.specs.declared.edit.Edit.{Edit}
+use Rattle.nb_sheet.specs.declared.edit.Edit.{Edit}
 use Rattle.nb_value.specs.declared.outcome.Outcome.TheVariants.{Value as Shows}
 use Rattle.nb_history.specs.Log.{nothing_yet}
 use Rattle.nb_history.specs.Print.{printing}

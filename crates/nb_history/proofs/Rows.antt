@@ -11,14 +11,14 @@ use Rattle.nb_syntax.specs.declared.tree.Expr.TheVariants as expr
 use Rattle.nb_eval.specs.Evaluation.{Evaluated, evaluation}
 use Rattle.nb_eval.specs.declared.given.Ending.TheVariants.{Failed}
 use Rattle.nb_value.specs.declared.value.Value.{Value}
-use Rattle.nb_log.specs.declared.edit.Edit.{Edit}
-use Rattle.nb_log.specs.declared.edit.Edit.TheVariants.{AddCell, Define, Delete}
+use Rattle.nb_sheet.specs.declared.edit.Edit.{Edit}
+use Rattle.nb_sheet.specs.declared.edit.Edit.TheVariants.{AddCell, Define, Delete}
 use Rattle.nb_log.specs.declared.event.Event.{Event}
 use Rattle.nb_log.specs.declared.event.Event.TheVariants.{Edit as EditEvent}
 use Rattle.nb_log.specs.declared.entry.Entry.{Entry}
 use Rattle.nb_log.specs.declared.entry.Entry.TheVariants.{Edit as EditEntry, Pending, Fulfilled, Rejected, Left}
-use Rattle.nb_history.specs.declared.resolution.Resolution.TheVariants.{Var, Twice, Missing}
-use Rattle.nb_history.specs.Lists.{Name}
+use Rattle.nb_resolve.specs.declared.resolution.Resolution.TheVariants.{Var, Twice, Missing}
+use Rattle.nb_sheet.specs.Lists.{Name}
 use Rattle.nb_history.specs.Log.{nothing_yet}
 use Rattle.nb_history.specs.Serial.{serial_within}
 use Rattle.nb_history.proofs.Cells.{plus, cell, gives, fold_int, fold_name, fold_plus, size_int, evaluates_int, size_add, size_rejected, size_rejected_through, size_pending, size_fulfilled}

@@ -7,9 +7,11 @@ use Rattle.std.specs.Prelude.{slice_get}
 use Rattle.std.proofs.lemmas.List.FromFn.{length-range_with_len}
 use Rattle.nb_value.specs.declared.pairs.Field.{Field}
 use Rattle.nb_value.specs.Fields as fields
-use Rattle.nb_history.specs.Lists.{Name, has, nth, numbers, numbers_from, is_name, from_option, option_then}
-use Rattle.nb_history.specs.Sheet.{Sheet}
-use Rattle.nb_history.specs.Names.{direct, circular, duplicate, needed, needs, inputs, variable_of, is_used, is_defined, is_observed, is_root}
+use Rattle.nb_sheet.specs.Lists.{Name, nth, numbers, numbers_from, is_name, from_option, option_then}
+use Rattle.nb_graph.specs.Needs.{has}
+use Rattle.nb_sheet.specs.Sheet.{Sheet}
+use Rattle.nb_resolve.specs.Names.{direct, duplicate, inputs, variable_of}
+use Rattle.nb_history.specs.Needs.{circular, needed, needs, is_used, is_defined, is_observed, is_root}
 use Rattle.nb_history.specs.Reading.{Reading, shown}
 use Rattle.nb_eval.specs.Evaluation.{Evaluated}
 use Rattle.nb_history.specs.Rules.{wanted, given, values_given, value_given, first_error, waits, run_body, body_of, answers_of, pulls_of, outcome_of, generates, marked_error, unmarked_value, local_value, scratch_within, scratch, plain_error, name_of, through_input}
@@ -18,10 +20,10 @@ use Rattle.nb_value.specs.declared.outcome.CellError.{CellError}
 use Rattle.nb_value.specs.declared.outcome.ErrorKind.TheVariants.{DefinedTwice, Circular}
 use Rattle.nb_value.specs.declared.outcome.Outcome.{Outcome}
 use Rattle.nb_value.specs.declared.outcome.Outcome.TheVariants.{Error as Fails}
-use Rattle.nb_log.specs.declared.row.VarRow.{VarRow}
-use Rattle.nb_history.specs.declared.resolution.Resolution.{Resolution}
-use Rattle.nb_history.specs.declared.resolution.Resolution.TheVariants.{Var, Builtin, Twice, Missing}
-use Rattle.nb_history.proofs.Reaches.{has_head, has_tail, has_cases, any_has, has_any, passing, passing_le, needed_below}
+use Rattle.nb_sheet.specs.declared.row.VarRow.{VarRow}
+use Rattle.nb_resolve.specs.declared.resolution.Resolution.{Resolution}
+use Rattle.nb_resolve.specs.declared.resolution.Resolution.TheVariants.{Var, Builtin, Twice, Missing}
+use Rattle.nb_graph.proofs.Reaches.{has_head, has_tail, has_cases, any_has, has_any, passing, passing_le, needed_below}
 use Rattle.nb_history.proofs.Direct.{OneNamed, direct_named, direct_within}
 use Rattle.nb_history.proofs.Closing.{needs_direct, needs_step, needs_fewer, number_has, wanted_has}
 

@@ -11,17 +11,19 @@ use Rattle.nb_value.specs.declared.outcome.Outcome.{Outcome}
 use Rattle.nb_value.specs.declared.outcome.Outcome.TheVariants.{Value as Shows, Error as Fails}
 use Rattle.nb_eval.specs.Evaluation.{Evaluated}
 use Rattle.nb_log.specs.Printing.{entry_size}
-use Rattle.nb_log.specs.declared.row.VarRow.{VarRow}
-use Rattle.nb_log.specs.declared.edit.Edit.{Edit}
+use Rattle.nb_sheet.specs.declared.row.VarRow.{VarRow}
+use Rattle.nb_sheet.specs.declared.edit.Edit.{Edit}
 use Rattle.nb_log.specs.declared.event.Event.{Event}
 use Rattle.nb_log.specs.declared.event.Event.TheVariants.{Edit as EditEvent}
 use Rattle.nb_log.specs.declared.entry.Entry.{Entry}
 use Rattle.nb_log.specs.declared.entry.Entry.TheVariants.{Edit as EditEntry, Frame, Settled, Late, Loaded, Refused, Rest, Dispose, Pending, Fulfilled, Rejected, Asked, Ended, Left}
-use Rattle.nb_history.specs.declared.resolution.Resolution.{Resolution}
-use Rattle.nb_history.specs.Lists.{Name, has, nth, numbers, from_option, option_then, or_else}
-use Rattle.nb_history.specs.Reach.{all_needed}
-use Rattle.nb_history.specs.Sheet.{Sheet, empty_sheet, refusal}
-use Rattle.nb_history.specs.Names.{inputs, inputs_of_row, variable_of, duplicate, is_defined, is_observed, is_root}
+use Rattle.nb_resolve.specs.declared.resolution.Resolution.{Resolution}
+use Rattle.nb_sheet.specs.Lists.{Name, nth, numbers, from_option, option_then, or_else}
+use Rattle.nb_graph.specs.Needs.{has}
+use Rattle.nb_graph.specs.Needs.{all_needed}
+use Rattle.nb_sheet.specs.Sheet.{Sheet, empty_sheet, refusal}
+use Rattle.nb_resolve.specs.Names.{inputs, inputs_of_row, variable_of, duplicate}
+use Rattle.nb_history.specs.Needs.{is_defined, is_observed, is_root}
 use Rattle.nb_history.specs.Reading.{Reading, Start, Footing, start_of, is_idle, shown, owed, renewal, is_full}
 use Rattle.nb_history.specs.Rules.{place_of, input_code, same_footing, is_running, plain_error, name_of, first_error, given, run_body, values_given, body_of, answers_of, pulls_of, entry_of, generates, next, ready}
 use Rattle.nb_history.specs.Log.{nothing_yet, after, counted, with_start, change_start, new_start, is_done, admit}

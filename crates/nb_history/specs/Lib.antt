@@ -1,7 +1,5 @@
 pub mod Lists
-pub mod Reach
-pub mod Sheet
-pub mod Names
+pub mod Needs
 pub mod Reading
 pub mod Rules
 pub mod Log

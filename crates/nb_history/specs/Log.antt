@@ -1,13 +1,14 @@
 -- What an entry changes, which entries may come, and the logs that are legal.
-use Rattle.std.specs.Prelude.{ℕ, ◌+◌, ◌-◌, ◌≡◌, ◌<◌, Bool, true, false, cond, ◌&&◌, ◌||◌, not, ◌==◌, nat_le, List, [], ◌∷◌, ◌++◌, length, replicate, Option, Some, None, is_some}
+use Rattle.std.specs.Prelude.{ℕ, ◌+◌, ◌-◌, ◌≡◌, ◌<◌, Bool, true, false, cond, ◌&&◌, ◌||◌, not, ◌==◌, nat_le, List, [], ◌∷◌, ◌++◌, length, replicate, Option, Some, None, is_some, option_map}
 use Rattle.nb_log.specs.Printing.{entry_size}
-use Rattle.nb_history.specs.Lists.{nth, put, numbers, Name, from_option, option_then, or_else, first_where}
+use Rattle.nb_sheet.specs.Lists.{nth, put, numbers, Name, from_option, option_then, or_else}
+use Rattle.nb_history.specs.Lists.{first_where}
 use Rattle.std.specs.Str.{bytes_eq}
 use Rattle.nb_value.specs.declared.pairs.Field.{Field}
 use Rattle.nb_eval.specs.Evaluation.{Evaluated}
 use Rattle.nb_eval.specs.declared.given.Ending.{Ending}
 use Rattle.nb_eval.specs.declared.given.Ending.TheVariants.{Done}
-use Rattle.nb_history.specs.Sheet.{Sheet, empty_sheet, refusal, edited_sheet}
+use Rattle.nb_sheet.specs.Sheet.{Sheet, empty_sheet, refusal, edited_sheet}
 use Rattle.nb_history.specs.Reading.{Reading, Start, Footing, Ticket, start_of, shown, owed, is_full}
 use Rattle.nb_history.specs.Rules.{footing, leaving, due, ready, may_start, next, deciding_error, evaluation, generates, body_of}
 use Rattle.nb_value.specs.declared.value.Value.{Value}
@@ -17,6 +18,7 @@ use Rattle.nb_value.specs.declared.outcome.Answer.{Answer}
 use Rattle.nb_log.specs.declared.event.Target.TheVariants.{Ticket as ByTicket, Key as ByKey}
 use Rattle.nb_log.specs.declared.event.Event.{Event}
 use Rattle.nb_log.specs.declared.event.Event.TheVariants.{Edit as EditEvent, Frame as FrameEvent, Settle, Rest as RestEvent, Dispose as DisposeEvent}
+use Rattle.nb_log.specs.Refused.{refusal_of}
 use Rattle.nb_log.specs.declared.entry.Refusal.{Refusal}
 use Rattle.nb_log.specs.declared.entry.Refusal.TheVariants.{Disposed, LogFull, NoTicket, AlreadySettled, NoAsk}
 use Rattle.nb_log.specs.declared.entry.Entry.{Entry}
@@ -166,7 +168,7 @@ live_of_key r key =
     first_where (λ t. is_live r t && from_option false (λ (k : Ticket). bytes_eq k.key key) (nth r.tickets t)) (numbers r.tickets)
 
 abbrev pub event_refusal : Reading → Event → Option Refusal
-event_refusal r (EditEvent edit) = refusal r.sheet edit
+event_refusal r (EditEvent edit) = option_map refusal_of (refusal r.sheet edit)
 event_refusal r (Settle (ByTicket t) a) = ticket_refusal (nth r.tickets t)
 event_refusal r (Settle (ByKey key) a) = from_option (Some NoAsk) (λ t. None) (live_of_key r key)
 event_refusal r FrameEvent = None

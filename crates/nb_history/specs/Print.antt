@@ -3,12 +3,12 @@ use Rattle.std.specs.Prelude.{ℕ, List, ◌++◌, map, length, Option}
 use Rattle.std.specs.List.{filter}
 use Rattle.nb_value.specs.declared.value.Value.{Value}
 use Rattle.nb_value.specs.declared.pairs.Field.{Field}
-use Rattle.nb_history.specs.Lists.{Name, nth, numbers, option_then}
+use Rattle.nb_sheet.specs.Lists.{Name, nth, numbers, option_then}
 use Rattle.nb_history.specs.Reading.{Reading, shown}
 use Rattle.nb_history.specs.Rules.{wanted}
 use Rattle.nb_history.specs.Log.{reading}
 use Rattle.nb_log.specs.Printing.{line_text, lines_text, entries_text, table_value, done_value}
-use Rattle.nb_log.specs.declared.row.VarRow.{VarRow}
+use Rattle.nb_sheet.specs.declared.row.VarRow.{VarRow}
 use Rattle.nb_log.specs.declared.entry.Entry.{Entry}
 
 abbrev pub row_name : Reading → ℕ → Option Name

@@ -1,7 +1,7 @@
 -- What stands after the entries of a log so far.
 use Rattle.std.specs.Prelude.{ℕ, Bool, true, false, List, [], Option, Some, None, nat_lt}
-use Rattle.nb_history.specs.Lists.{nth, from_option, option_then}
-use Rattle.nb_history.specs.Sheet.{Sheet}
+use Rattle.nb_sheet.specs.Lists.{nth, from_option, option_then}
+use Rattle.nb_sheet.specs.Sheet.{Sheet}
 use Rattle.nb_value.specs.declared.value.Value.{Value}
 use Rattle.nb_value.specs.declared.outcome.Outcome.{Outcome}
 use Rattle.nb_value.specs.declared.outcome.Answer.{Answer}

@@ -4,13 +4,15 @@ use Rattle.std.specs.List.{list_any, list_all}
 use Rattle.std.specs.Fmt.{take_chars}
 use Rattle.nb_value.specs.declared.pairs.Field.{Field}
 use Rattle.nb_value.specs.Fields as fields
-use Rattle.nb_history.specs.Lists.{nth, Name, from_option, option_then, or_else, same_bool, same_numbers}
+use Rattle.nb_sheet.specs.Lists.{nth, Name, from_option, option_then, or_else}
+use Rattle.nb_history.specs.Lists.{same_bool, same_numbers}
 use Rattle.nb_syntax.specs.Generator.{is_generator}
 use Rattle.nb_eval.specs.Evaluation.{Evaluated, evaluation as cell_evaluation}
 use Rattle.nb_eval.specs.declared.given.Ending.{Ending}
 use Rattle.nb_eval.specs.declared.given.Ending.TheVariants.{Paused, Needs, Done, Failed}
-use Rattle.nb_history.specs.Sheet.{Sheet}
-use Rattle.nb_history.specs.Names.{inputs, direct, duplicate, circular, needed, is_used}
+use Rattle.nb_sheet.specs.Sheet.{Sheet}
+use Rattle.nb_resolve.specs.Names.{inputs, direct, duplicate}
+use Rattle.nb_history.specs.Needs.{circular, needed, is_used}
 use Rattle.nb_history.specs.Reading.{Reading, Start, Footing, start_of, is_idle, shown, renewal}
 use Rattle.nb_value.specs.declared.value.Value.{Value}
 use Rattle.nb_value.specs.declared.value.Value.TheVariants.{Null}
@@ -20,11 +22,11 @@ use Rattle.nb_value.specs.declared.outcome.ErrorKind.TheVariants.{NotDefined, De
 use Rattle.nb_value.specs.declared.outcome.Outcome.{Outcome}
 use Rattle.nb_value.specs.declared.outcome.Outcome.TheVariants.{Value as Shows, Error as Fails}
 use Rattle.nb_value.specs.declared.outcome.Answer.{Answer}
-use Rattle.nb_log.specs.declared.row.BodyOf.{BodyOf}
-use Rattle.nb_log.specs.declared.row.BodyOf.TheVariants.{Cell as CellBody, Import as ImportBody}
-use Rattle.nb_log.specs.declared.row.VarRow.{VarRow}
-use Rattle.nb_history.specs.declared.resolution.Resolution.{Resolution}
-use Rattle.nb_history.specs.declared.resolution.Resolution.TheVariants.{Var, Builtin, Twice, Missing}
+use Rattle.nb_sheet.specs.declared.row.BodyOf.{BodyOf}
+use Rattle.nb_sheet.specs.declared.row.BodyOf.TheVariants.{Cell as CellBody, Import as ImportBody}
+use Rattle.nb_sheet.specs.declared.row.VarRow.{VarRow}
+use Rattle.nb_resolve.specs.declared.resolution.Resolution.{Resolution}
+use Rattle.nb_resolve.specs.declared.resolution.Resolution.TheVariants.{Var, Builtin, Twice, Missing}
 use Rattle.nb_log.specs.declared.entry.Entry.{Entry}
 use Rattle.nb_log.specs.declared.entry.Entry.TheVariants.{Fulfilled, Rejected, Asked, Ended}
 

@@ -3,7 +3,8 @@ use Rattle.std.specs.Prelude.{ℕ, zero, suc, ◌≡◌, Bool, false, cond, not,
 use Rattle.std.specs.List.{list_any}
 use Rattle.std.specs.Str.{bytes_eq}
 use Rattle.nb_value.specs.declared.pairs.Field.{Field}
-use Rattle.nb_history.specs.Lists.{nth, numbers, Name, from_option, option_then, or_else, first_where}
+use Rattle.nb_sheet.specs.Lists.{nth, numbers, Name, from_option, option_then, or_else}
+use Rattle.nb_history.specs.Lists.{first_where}
 use Rattle.nb_history.specs.Reading.{Reading, Ticket, owed, is_full}
 use Rattle.nb_history.specs.Rules.{leaving, may_start, ready, next}
 use Rattle.nb_history.specs.Log.{nothing_yet, after, read_from, admit, is_live}

@@ -2,7 +2,3 @@
 //!
 //! The definitions stand in `specs/`, one module a subject, and the laws in `proofs/`; there is no code to run.
 #![tactic(auto)]
-
-mod resolution;
-
-pub use resolution::Resolution;

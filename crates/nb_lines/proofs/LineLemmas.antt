@@ -9,7 +9,7 @@ use Rattle.nb_lines.specs.declared.script.LineFail.{LineFail}
 use Rattle.nb_lines.specs.declared.script.LineFail.TheVariants.{Bad, NotBuilt, Memory}
 use Rattle.nb_lines.specs.declared.script.BadReason.TheVariants.{LineTooLong, TooManyLines}
 use Rattle.nb_syntax.specs.declared.tree.Cell.{Cell}
-use Rattle.nb_log.specs.declared.edit.Edit.TheVariants.{AddCell}
+use Rattle.nb_sheet.specs.declared.edit.Edit.TheVariants.{AddCell}
 use Rattle.nb_log.specs.declared.event.Event.TheVariants as event
 use Rattle.std.proofs.lemmas.Option.{same_Some}
 use Rattle.serde_json.specs.Data.{Data}

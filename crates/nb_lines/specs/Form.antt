@@ -11,7 +11,7 @@ use Rattle.serde_json.specs.declared.value.Value.{Value as Tree}
 use Rattle.nb_syntax.specs.declared.tree.Cell.{Cell}
 use Rattle.nb_syntax.specs.Plain.{is_plain}
 use Rattle.nb_parser.specs.Text.{cell_of}
-use Rattle.nb_log.specs.declared.edit.Edit.TheVariants.{AddCell}
+use Rattle.nb_sheet.specs.declared.edit.Edit.TheVariants.{AddCell}
 use Rattle.nb_log.specs.declared.event.Event.{Event}
 use Rattle.nb_log.specs.declared.event.Event.TheVariants as event
 use Rattle.nb_lines.specs.declared.script.LineFail.{LineFail}

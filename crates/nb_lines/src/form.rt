@@ -4,8 +4,9 @@ ghost use Rattle.serde_json.specs.View.{view};
 ghost use Rattle.nb_lines.specs.Form.{ReadsData, ReadsEvent, field_count, text_at, number_at, does_cell, is_of_module_zero, has_form, cell_text, plain_cell, text_event, data_event};
 
 use crate::script::LineFail;
-use nb_log::{Edit, Event};
+use nb_log::Event;
 use nb_parser::{ParseError, parse_cell};
+use nb_sheet::Edit;
 use nb_syntax::{Cell, is_plain};
 use serde_json::{Category, Value as Tree};
 use std::alloc::{AllocError, Global};

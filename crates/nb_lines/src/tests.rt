@@ -1,7 +1,8 @@
 //! What is read, and where the first line is that is not.
 use crate::lines::read_lines;
 use crate::script::{LineFail, ScriptLine};
-use nb_log::{Edit, Event};
+use nb_log::Event;
+use nb_sheet::Edit;
 use nb_syntax::{Body, Expr, Sign};
 use std::alloc::Global;
 use std::test::Fail;

@@ -3,3 +3,4 @@ pub mod Size
 pub mod Written
 pub mod Tickets
 pub mod Objects
+pub mod Refused

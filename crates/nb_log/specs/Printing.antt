@@ -14,8 +14,8 @@ use Rattle.nb_value.specs.Value.{size}
 use Rattle.nb_value.specs.Json.{json_text}
 use Rattle.nb_syntax.specs.Print.{cell_text}
 use Rattle.nb_syntax.specs.declared.tree.Cell.{Cell}
-use Rattle.nb_log.specs.declared.edit.Edit.{Edit}
-use Rattle.nb_log.specs.declared.edit.Edit.TheVariants.{AddModule, AddVariable, AddCell, Define, Import, Delete, Redefine}
+use Rattle.nb_sheet.specs.declared.edit.Edit.{Edit}
+use Rattle.nb_sheet.specs.declared.edit.Edit.TheVariants.{AddModule, AddVariable, AddCell, Define, Import, Delete, Redefine}
 use Rattle.nb_log.specs.declared.event.Target.{Target}
 use Rattle.nb_log.specs.declared.event.Target.TheVariants.{Ticket, Key}
 use Rattle.nb_log.specs.declared.event.Event.{Event}

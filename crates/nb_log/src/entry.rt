@@ -1,5 +1,5 @@
-use crate::edit::Edit;
 use crate::event::Event;
+use nb_sheet::Edit;
 use nb_value::{Answer, CellError, Items, Text, Value};
 
 /// Why an event is refused. The first six are reasons against an edit.

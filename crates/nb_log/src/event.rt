@@ -1,4 +1,4 @@
-use crate::edit::Edit;
+use nb_sheet::Edit;
 use nb_value::{Answer, Text};
 
 /// Which fetch a settlement answers.

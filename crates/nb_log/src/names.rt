@@ -2,8 +2,10 @@
 
 ghost use Rattle.std.specs.Prelude.{◌≡◌};
 ghost use Rattle.nb_log.specs.Printing.{kind_name, refusal_name, refusal_number};
+ghost use Rattle.nb_log.specs.Refused.{refusal_of};
 
 use crate::entry::Refusal;
+use nb_sheet::Refused;
 use nb_value::ErrorKind;
 
 /// The name of a kind of error.
@@ -52,4 +54,18 @@ pub fn refusal_number(reason: Refusal) -> u8
     ensures { result ≡ refusal_number reason }
 {
     reason as u8
+}
+
+/// The reason for an edit that the sheet refuses.
+pub fn refusal_of(refused: Refused) -> Refusal
+    ensures { result ≡ refusal_of refused }
+{
+    match refused {
+        Refused::NoModule => Refusal::NoModule,
+        Refused::NoVariable => Refusal::NoVariable,
+        Refused::TooManyModules => Refusal::TooManyModules,
+        Refused::TooManyVariables => Refusal::TooManyVariables,
+        Refused::NotNamed => Refusal::NotNamed,
+        Refused::NamedTwice => Refusal::NamedTwice,
+    }
 }

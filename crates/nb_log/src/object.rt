@@ -8,8 +8,8 @@ ghost use Rattle.nb_log.specs.Printing.{number, field, answer_field, settle_fiel
 ghost use Rattle.nb_log.specs.Tickets.{target_ticket, HasSmallTicket};
 ghost use Rattle.nb_log.specs.Objects.{target_field};
 
-use crate::edit::Edit;
 use crate::event::{Event, Target};
+use nb_sheet::Edit;
 use nb_syntax::{Cell, print};
 use nb_value::{Answer, Pairs, Text, Value};
 use std::alloc::{AllocError, Global};

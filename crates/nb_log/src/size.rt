@@ -6,10 +6,10 @@ ghost use Rattle.nb_log.specs.Printing.{text_or_null, edit_object, event_object,
 ghost use Rattle.nb_log.specs.Size.{field_size, target_size};
 ghost use Rattle.nb_syntax.specs.Print.{cell_text};
 
-use crate::edit::Edit;
 use crate::entry::Entry;
 use crate::event::{Event, Target};
 use crate::names::{kind_name, refusal_name};
+use nb_sheet::Edit;
 use nb_syntax::{Cell, printed_len};
 use nb_value::{Answer, CellError, Text, Value};
 

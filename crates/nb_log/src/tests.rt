@@ -3,11 +3,11 @@ ghost use Rattle.std.specs.Prelude.{All, IfOk, OnOk};
 ghost use Rattle.nb_log.specs.Tickets.{HasSmallTickets};
 
 use crate::array::{done_value, table_value};
-use crate::edit::Edit;
 use crate::entry::Entry;
 use crate::lines::{push_entries, push_line};
 use crate::log::Log;
 use crate::size::entry_size;
+use nb_sheet::Edit;
 use nb_syntax::{Body, Cell, Expr, Operand, Sign};
 use nb_value::{Boxed, Bytes, CellError, ErrorKind, Items, Outcome, Text, Tree, Value};
 use std::alloc::{AllocError, Global};

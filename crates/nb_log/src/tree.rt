@@ -1,8 +1,6 @@
-//! Copies of edits and events, and whether two are one.
+//! Copies of events, and whether two are one.
 
-use crate::edit::Edit;
 use crate::event::{Event, Target};
-use crate::row::BodyOf;
 use nb_value::Tree;
 use std::alloc::{AllocError, Global};
 
@@ -18,28 +16,6 @@ impl Tree for Target {
         match (self, other) {
             (Target::Ticket(a), Target::Ticket(b)) => *a == *b,
             (Target::Key(a), Target::Key(b)) => a.same(b),
-            _ => false,
-        }
-    }
-}
-
-impl Tree for BodyOf {
-    fn copy(&self, alloc: Global) -> Result<BodyOf, AllocError> {
-        match self {
-            BodyOf::Cell(cell) => Ok(BodyOf::Cell(cell.copy(alloc)?)),
-            BodyOf::Import { name, from } => Ok(BodyOf::Import {
-                name: name.copy(alloc)?,
-                from: *from,
-            }),
-        }
-    }
-
-    fn same(&self, other: &BodyOf) -> bool {
-        match (self, other) {
-            (BodyOf::Cell(a), BodyOf::Cell(b)) => a.same(b),
-            (BodyOf::Import { name: a, from: m }, BodyOf::Import { name: b, from: n }) => {
-                *m == *n && a.same(b)
-            }
             _ => false,
         }
     }
@@ -75,106 +51,6 @@ impl Tree for Event {
             ) => { s.same(t) && a.same(b) }
             (Event::Rest, Event::Rest) => true,
             (Event::Dispose, Event::Dispose) => true,
-            _ => false,
-        }
-    }
-}
-
-impl Tree for Edit {
-    fn copy(&self, alloc: Global) -> Result<Edit, AllocError> {
-        match self {
-            Edit::AddModule => Ok(Edit::AddModule),
-            Edit::AddVariable { module, observed } => Ok(Edit::AddVariable {
-                module: *module,
-                observed: *observed,
-            }),
-            Edit::AddCell {
-                module,
-                cell,
-                observed,
-            } => Ok(Edit::AddCell {
-                module: *module,
-                cell: cell.copy(alloc)?,
-                observed: *observed,
-            }),
-            Edit::Define { variable, cell } => Ok(Edit::Define {
-                variable: *variable,
-                cell: cell.copy(alloc)?,
-            }),
-            Edit::Import {
-                variable,
-                name,
-                alias,
-                from,
-            } => Ok(Edit::Import {
-                variable: *variable,
-                name: name.copy(alloc)?,
-                alias: alias.copy(alloc)?,
-                from: *from,
-            }),
-            Edit::Delete { variable } => Ok(Edit::Delete {
-                variable: *variable,
-            }),
-            Edit::Redefine { module, cell } => Ok(Edit::Redefine {
-                module: *module,
-                cell: cell.copy(alloc)?,
-            }),
-        }
-    }
-
-    fn same(&self, other: &Edit) -> bool {
-        match (self, other) {
-            (Edit::AddModule, Edit::AddModule) => true,
-            (
-                Edit::AddVariable {
-                    module: m,
-                    observed: s,
-                },
-                Edit::AddVariable {
-                    module: n,
-                    observed: t,
-                },
-            ) => *m == *n && *s == *t,
-            (
-                Edit::AddCell {
-                    module: m,
-                    cell: a,
-                    observed: s,
-                },
-                Edit::AddCell {
-                    module: n,
-                    cell: b,
-                    observed: t,
-                },
-            ) => *m == *n && *s == *t && a.same(b),
-            (
-                Edit::Define {
-                    variable: v,
-                    cell: a,
-                },
-                Edit::Define {
-                    variable: w,
-                    cell: b,
-                },
-            ) => { *v == *w && a.same(b) }
-            (
-                Edit::Import {
-                    variable: v,
-                    name: a,
-                    alias: c,
-                    from: m,
-                },
-                Edit::Import {
-                    variable: w,
-                    name: b,
-                    alias: d,
-                    from: n,
-                },
-            ) => *v == *w && *m == *n && a.same(b) && c.same(d),
-            (Edit::Delete { variable: v }, Edit::Delete { variable: w }) => *v == *w,
-            (Edit::Redefine { module: m, cell: a }, Edit::Redefine { module: n, cell: b }) => {
-                *m == *n && a.same(b)
-            }
             _ => false,
         }
     }

@@ -6,8 +6,8 @@ use Rattle.nb_value.specs.declared.value.Value.{Value}
 use Rattle.nb_value.specs.declared.pairs.Field.{Field}
 use Rattle.nb_log.specs.declared.event.Event.{Event}
 use Rattle.nb_log.specs.declared.entry.Entry.{Entry}
-use Rattle.nb_log.specs.declared.row.VarRow.{VarRow}
-use Rattle.nb_history.specs.Lists.{nth}
+use Rattle.nb_sheet.specs.declared.row.VarRow.{VarRow}
+use Rattle.nb_sheet.specs.Lists.{nth}
 use Rattle.nb_history.specs.Reading.{Reading}
 use Rattle.nb_history.specs.Rules.{wanted}
 use Rattle.nb_history.specs.Log.{nothing_yet, after, reading, read_from, admit, IsLegal, RestsAfter}
@@ -22,7 +22,7 @@ use Rattle.nb_lines.specs.declared.script.ScriptLine.{ScriptLine}
 use Rattle.nb_lines.specs.Lines.{script_lines, AddsCell, AllAddCells}
 use Rattle.nb_main.specs.Run.{TakesLine}
 use Rattle.nb_core.specs.State.{IsPlain}
-use Rattle.nb_history.specs.Sheet.{Sheet}
+use Rattle.nb_sheet.specs.Sheet.{Sheet}
 use Rattle.nb_main.proofs.TicketLemmas.{AllSmall, small_append, small_admit, plain_admit, calm_serial}
 
 -- of the lines, those that are left are still to come, and all that is promised holds so far

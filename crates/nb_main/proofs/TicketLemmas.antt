@@ -13,19 +13,19 @@ use Rattle.nb_eval.proofs.Endings.{ends}
 use Rattle.nb_syntax.specs.declared.tree.Cell.{Cell}
 use Rattle.nb_syntax.specs.Plain.{is_plain}
 use Rattle.nb_log.specs.Tickets.{entry_ticket, HasSmallTickets}
-use Rattle.nb_log.specs.declared.edit.Edit.TheVariants.{AddCell}
+use Rattle.nb_sheet.specs.declared.edit.Edit.TheVariants.{AddCell}
 use Rattle.nb_log.specs.declared.event.Event.{Event}
 use Rattle.nb_log.specs.declared.event.Event.TheVariants as event
 use Rattle.nb_log.specs.declared.entry.Refusal.{Refusal}
 use Rattle.nb_log.specs.declared.entry.Entry.{Entry}
 use Rattle.nb_log.specs.declared.entry.Entry.TheVariants.{Edit, Refused, Rejected, Left, Pending}
-use Rattle.nb_log.specs.declared.row.BodyOf.{BodyOf}
-use Rattle.nb_log.specs.declared.row.BodyOf.TheVariants.{Cell as CellBody, Import as ImportBody}
-use Rattle.nb_log.specs.declared.row.VarRow.{VarRow}
+use Rattle.nb_sheet.specs.declared.row.BodyOf.{BodyOf}
+use Rattle.nb_sheet.specs.declared.row.BodyOf.TheVariants.{Cell as CellBody, Import as ImportBody}
+use Rattle.nb_sheet.specs.declared.row.VarRow.{VarRow}
 use Rattle.std.specs.Prelude.{◌==◌}
-use Rattle.nb_history.specs.Names.{inputs}
-use Rattle.nb_history.specs.Lists.{nth, or_else, option_then, from_option}
-use Rattle.nb_history.specs.Sheet.{Sheet}
+use Rattle.nb_resolve.specs.Names.{inputs}
+use Rattle.nb_sheet.specs.Lists.{nth, or_else, option_then, from_option}
+use Rattle.nb_sheet.specs.Sheet.{Sheet}
 use Rattle.nb_history.specs.Reading.{Reading, owed, shown}
 use Rattle.nb_history.specs.Rules.{leaving, ready, may_start, next, entry_of, run_body, generates, evaluated, evaluation, body_of, deciding_error, values_given, answers_of, pulls_of, done, first_value}
 use Rattle.nb_history.specs.Log.{after, read_from, admit, first_refusal}

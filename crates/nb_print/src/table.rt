@@ -1,13 +1,14 @@
 ghost use Rattle.std.specs.Prelude.{◌≡◌, ◌≤◌, ◌<◌, ◌++◌, length, IfOk, OnOk, All, Some};
 ghost use Rattle.nb_log.specs.Printing.{entries_text, line_text, done_value as done_of};
 ghost use Rattle.nb_log.specs.Tickets.{HasSmallTickets};
-ghost use Rattle.nb_history.specs.Lists.{nth};
+ghost use Rattle.nb_sheet.specs.Lists.{nth};
 ghost use Rattle.nb_history.specs.Print.{table_text, printing};
 ghost use Rattle.nb_history.specs.History.{standing};
 ghost use Rattle.nb_print.specs.Table.{var_text};
 
 use nb_core::Core;
-use nb_log::{Log, VarRow, done_value, push_entries, push_line, table_value};
+use nb_log::{Log, done_value, push_entries, push_line, table_value};
+use nb_sheet::VarRow;
 use nb_value::Bytes;
 use std::alloc::{AllocError, Global};
 

@@ -1,6 +1,6 @@
 use Rattle.std.proofs.Common.{◌≡◌, ◌∙◌, ap, List, Some}
-use Rattle.nb_history.specs.declared.resolution.Resolution.{Resolution}
-use Rattle.nb_history.specs.Lists.{Name, nth, or_else}
+use Rattle.nb_resolve.specs.declared.resolution.Resolution.{Resolution}
+use Rattle.nb_sheet.specs.Lists.{Name, nth, or_else}
 use Rattle.nb_history.specs.Rules.{deciding_error}
 use Rattle.nb_history.specs.Reading.{shown}
 use Rattle.nb_core.specs.Given.{first_error_in, values_in}

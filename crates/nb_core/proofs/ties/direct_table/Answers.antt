@@ -1,5 +1,5 @@
 use Rattle.std.proofs.Common.{ℕ, List, ◌+◌, ◌∙◌, ◌<◌, length, arith}
-use Rattle.nb_history.specs.Names.{direct}
+use Rattle.nb_resolve.specs.Names.{direct}
 use Rattle.nb_core.specs.State.{sheet_of}
 use Rattle.nb_core.proofs.Scans.{nth_read}
 use Rattle.nb_core.proofs.Tables.{table_push, row_direct}

@@ -1,6 +1,6 @@
 use Rattle.std.proofs.Common.{◌≡◌, map}
 use Rattle.std.specs.List.{range_with_len}
-use Rattle.nb_history.specs.Names.{direct}
+use Rattle.nb_resolve.specs.Names.{direct}
 use Rattle.nb_core.specs.State.{sheet_of}
 use Rattle.nb_core.proofs.ties.direct_table.Given as goal
 

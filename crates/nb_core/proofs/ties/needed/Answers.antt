@@ -1,6 +1,6 @@
 use Rattle.std.proofs.Common.{◌≤◌, ◌∙◌, sym, ap, length, arith, List, ℕ}
-use Rattle.nb_history.specs.Lists.{numbers}
-use Rattle.nb_history.specs.Reach.{grown}
+use Rattle.nb_sheet.specs.Lists.{numbers}
+use Rattle.nb_graph.specs.Needs.{grown}
 use Rattle.nb_core.specs.Scan.{needs_in}
 use Rattle.nb_core.proofs.Tables.{rounds_stop}
 use Rattle.nb_core.proofs.ties.needed.Goals as goal

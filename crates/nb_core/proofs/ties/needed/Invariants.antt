@@ -1,6 +1,6 @@
 use Rattle.std.proofs.Common.{◌≡◌}
-use Rattle.nb_history.specs.Lists.{numbers}
-use Rattle.nb_history.specs.Reach.{rounds}
+use Rattle.nb_sheet.specs.Lists.{numbers}
+use Rattle.nb_graph.specs.Needs.{rounds}
 use Rattle.nb_core.specs.Scan.{needs_in}
 use Rattle.nb_core.proofs.ties.needed.Given as goal
 

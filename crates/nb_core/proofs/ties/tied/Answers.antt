@@ -1,10 +1,11 @@
 use Rattle.std.proofs.Common.{◌≡◌, ◌∙◌, ap, length, arith, map, List, ℕ}
-use Rattle.nb_history.specs.Lists.{Name, has, numbers}
-use Rattle.nb_history.specs.Reach.{rounds}
+use Rattle.nb_sheet.specs.Lists.{Name, numbers}
+use Rattle.nb_graph.specs.Needs.{has}
+use Rattle.nb_graph.specs.Needs.{rounds}
 use Rattle.nb_history.specs.Rules.{input_code}
-use Rattle.nb_history.specs.Names.{variable_of}
+use Rattle.nb_resolve.specs.Names.{variable_of}
 use Rattle.std.specs.List.{filter_map}
-use Rattle.nb_history.specs.declared.resolution.Resolution.{Resolution}
+use Rattle.nb_resolve.specs.declared.resolution.Resolution.{Resolution}
 use Rattle.nb_core.specs.Scan.{needs_in}
 use Rattle.nb_core.specs.State.{sheet_of}
 use Rattle.nb_core.proofs.Scans.{nth_read_at}

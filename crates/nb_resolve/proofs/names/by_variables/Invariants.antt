@@ -1,6 +1,6 @@
 use Rattle.std.proofs.Common.{◌≡◌, take}
-use Rattle.nb_core.specs.Scan.{found_in}
-use Rattle.nb_core.proofs.names.by_variables.Given as goal
+use Rattle.nb_resolve.specs.Scan.{found_in}
+use Rattle.nb_resolve.proofs.names.by_variables.Given as goal
 
 -- what was found so far
 abbrev pub invariant-loop-i : goal.invariant-loop-i

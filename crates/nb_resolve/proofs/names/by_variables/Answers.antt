@@ -1,7 +1,7 @@
 use Rattle.std.proofs.Common.{◌<◌, ◌∙◌, length, arith}
-use Rattle.nb_core.proofs.Scans.{found_yes, found_no}
-use Rattle.nb_core.proofs.names.by_variables.Goals as goal
-use Rattle.nb_core.proofs.names.by_variables.Goals.{then-is_of_name, else-is_of_name}
+use Rattle.nb_resolve.proofs.Scans.{found_yes, found_no}
+use Rattle.nb_resolve.proofs.names.by_variables.Goals as goal
+use Rattle.nb_resolve.proofs.names.by_variables.Goals.{then-is_of_name, else-is_of_name}
 
 pub loop-i-preserved : goal.loop-i-preserved
 loop-i-preserved c =

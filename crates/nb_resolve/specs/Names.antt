@@ -1,18 +1,17 @@
--- What a name stands for, a variable's inputs, and which variables it needs.
-use Rattle.std.specs.Prelude.{ℕ, Bool, true, false, cond, ◌&&◌, ◌||◌, List, [], ◌∷◌, map, Option, Some, None, is_some}
-use Rattle.std.specs.List.{list_any, filter_map, position_from}
+-- What a name stands for in a module, and a variable's inputs.
+use Rattle.std.specs.Prelude.{ℕ, Bool, true, false, cond, List, [], ◌∷◌, map, Option, Some, None}
+use Rattle.std.specs.List.{filter_map, position_from}
 use Rattle.std.specs.Str.{bytes_eq}
-use Rattle.nb_history.specs.Lists.{nth, numbers, Name, has, from_option}
 use Rattle.nb_value.specs.declared.pairs.Field.{Field}
-use Rattle.nb_history.specs.Reach.{all_needed}
-use Rattle.nb_syntax.specs.FreeNames.{free}
-use Rattle.nb_history.specs.Sheet.{Sheet, named}
 use Rattle.nb_value.specs.declared.value.Value.{Value}
-use Rattle.nb_log.specs.declared.row.BodyOf.{BodyOf}
-use Rattle.nb_log.specs.declared.row.BodyOf.TheVariants.{Cell as CellBody, Import as ImportBody}
-use Rattle.nb_log.specs.declared.row.VarRow.{VarRow}
-use Rattle.nb_history.specs.declared.resolution.Resolution.{Resolution}
-use Rattle.nb_history.specs.declared.resolution.Resolution.TheVariants.{Var, Builtin, Twice, Missing}
+use Rattle.nb_syntax.specs.FreeNames.{free}
+use Rattle.nb_sheet.specs.Lists.{nth, Name, from_option}
+use Rattle.nb_sheet.specs.Sheet.{Sheet, named}
+use Rattle.nb_sheet.specs.declared.row.BodyOf.{BodyOf}
+use Rattle.nb_sheet.specs.declared.row.BodyOf.TheVariants.{Cell as CellBody, Import as ImportBody}
+use Rattle.nb_sheet.specs.declared.row.VarRow.{VarRow}
+use Rattle.nb_resolve.specs.declared.resolution.Resolution.{Resolution}
+use Rattle.nb_resolve.specs.declared.resolution.Resolution.TheVariants.{Var, Builtin, Twice, Missing}
 
 -- ---- what a name stands for
 
@@ -59,30 +58,3 @@ variable_of (n, Missing) = None
 -- the variables among the inputs
 abbrev pub direct : Sheet → ℕ → List ℕ
 direct s v = filter_map variable_of (inputs s v)
-
--- ---- what is needed
-
--- all that v needs, by number
-abbrev pub needed : Sheet → ℕ → List ℕ
-needed s v = all_needed (direct s) (numbers s.rows) v
-
--- whether v needs u
-abbrev pub needs : Sheet → ℕ → ℕ → Bool
-needs s v u = has (needed s v) u
-
-abbrev pub circular : Sheet → ℕ → Bool
-circular s v = needs s v v
-
-abbrev pub is_defined : Sheet → ℕ → Bool
-is_defined s v = from_option false (λ (row : VarRow). is_some row.body) (nth s.rows v)
-
-abbrev pub is_observed : Sheet → ℕ → Bool
-is_observed s v = from_option false (λ (row : VarRow). row.observed) (nth s.rows v)
-
--- an observed defined variable
-abbrev pub is_root : Sheet → ℕ → Bool
-is_root s v = is_defined s v && is_observed s v
-
--- v is defined, and is observed or needed by an observed defined variable
-abbrev pub is_used : Sheet → ℕ → Bool
-is_used s v = is_defined s v && (is_observed s v || list_any (λ w. is_root s w && needs s w v) (numbers s.rows))

@@ -1,21 +1,39 @@
 -- The sheet: modules, variables and what an edit makes of them.
-use Rattle.std.specs.Prelude.{ℕ, ◌+◌, Bool, true, false, ◌&&◌, not, ◌==◌, nat_le, List, [], ◌∷◌, ◌++◌, length, Option, Some, None, is_some}
-use Rattle.nb_history.specs.Lists.{nth, put, numbers_where, Name, is_name, or_else, from_option}
+use Rattle.std.specs.Prelude.{ℕ, ◌+◌, Bool, true, false, ◌&&◌, ◌||◌, not, ◌==◌, ◌≡◌, ◌≤◌, ◌<◌, ⊤, Result, Ok, Err, nat_le, nat_lt, List, [], ◌∷◌, ◌++◌, length, Option, Some, None, is_some}
+use Rattle.std.specs.List.{list_all}
+use Rattle.nb_sheet.specs.Lists.{nth, put, numbers_where, Name, is_name, or_else, from_option}
 use Rattle.nb_value.specs.declared.pairs.Field.{Field}
 use Rattle.nb_value.specs.declared.value.Value.{Value}
-use Rattle.nb_log.specs.declared.row.BodyOf.{BodyOf}
-use Rattle.nb_log.specs.declared.row.BodyOf.TheVariants.{Cell as CellBody, Import as ImportBody}
-use Rattle.nb_log.specs.declared.row.VarRow.{VarRow}
-use Rattle.nb_log.specs.declared.edit.Edit.{Edit}
-use Rattle.nb_log.specs.declared.edit.Edit.TheVariants.{AddModule, AddVariable, AddCell, Define, Import, Delete, Redefine}
-use Rattle.nb_log.specs.declared.entry.Refusal.{Refusal}
-use Rattle.nb_log.specs.declared.entry.Refusal.TheVariants.{NoModule, NoVariable, TooManyModules, TooManyVariables, NotNamed, NamedTwice}
+use Rattle.nb_sheet.specs.declared.row.BodyOf.{BodyOf}
+use Rattle.nb_sheet.specs.declared.row.BodyOf.TheVariants.{Cell as CellBody, Import as ImportBody}
+use Rattle.nb_sheet.specs.declared.row.VarRow.{VarRow}
+use Rattle.nb_sheet.specs.declared.edit.Edit.{Edit}
+use Rattle.nb_sheet.specs.declared.edit.Edit.TheVariants.{AddModule, AddVariable, AddCell, Define, Import, Delete, Redefine}
+use Rattle.nb_sheet.specs.declared.refused.Refused.{Refused}
+use Rattle.nb_sheet.specs.declared.refused.Refused.TheVariants.{NoModule, NoVariable, TooManyModules, TooManyVariables, NotNamed, NamedTwice}
 
 -- the builtins, the number of modules, and the variables in order of number
 pub record Sheet : Type 0 where
   pub builtins : List (Field Value)
   pub modules : ℕ
   pub rows : List VarRow
+
+-- what every sheet keeps of a row: its module is there, an import's too, and it has a name only while it is defined
+abbrev pub is_body : ℕ → Option BodyOf → Bool
+is_body modules None = true
+is_body modules (Some (CellBody cell)) = true
+is_body modules (Some (ImportBody name from)) = nat_lt from modules
+
+abbrev pub is_row : ℕ → VarRow → Bool
+is_row modules row = nat_lt row.module modules && (not (is_some row.name) || is_some row.body) && is_body modules row.body
+
+-- what every sheet keeps
+pub record IsSheet (s : Sheet) : Type 0 where
+  pub builtins : length s.builtins ≤ 65536
+  pub some_module : 0 < s.modules
+  pub modules : s.modules ≤ 64
+  pub variables : length s.rows ≤ 1024
+  pub rows : list_all (is_row s.modules) s.rows ≡ true
 
 -- module 0, and no variable
 abbrev pub empty_sheet : List (Field Value) → Sheet
@@ -28,30 +46,35 @@ named s m n = numbers_where (λ (row : VarRow). (row.module == m) && is_name row
 -- ---- the refusals
 
 -- a reason, where the test holds
-abbrev pub where_true : Bool → Refusal → Option Refusal
+abbrev pub where_true : Bool → Refused → Option Refused
 where_true true reason = Some reason
 where_true false reason = None
 
-abbrev pub no_module : Sheet → ℕ → Option Refusal
+abbrev pub no_module : Sheet → ℕ → Option Refused
 no_module s m = where_true (nat_le s.modules m) NoModule
 
-abbrev pub no_variable : Sheet → ℕ → Option Refusal
+abbrev pub no_variable : Sheet → ℕ → Option Refused
 no_variable s v = where_true (not (is_some (nth s.rows v))) NoVariable
 
-abbrev pub full : Sheet → Option Refusal
+abbrev pub full : Sheet → Option Refused
 full s = where_true (nat_le 1024 (length s.rows)) TooManyVariables
 
-abbrev pub not_once : List ℕ → Option Refusal
+abbrev pub not_once : List ℕ → Option Refused
 not_once [] = Some NotNamed
 not_once (v ∷ []) = None
 not_once (v ∷ w ∷ more) = Some NamedTwice
 
-abbrev pub no_one_named : Sheet → ℕ → Option Name → Option Refusal
+abbrev pub no_one_named : Sheet → ℕ → Option Name → Option Refused
 no_one_named s m None = Some NotNamed
 no_one_named s m (Some n) = not_once (named s m n)
 
+-- what a test of an edit answers
+abbrev pub reason : Result ⊤ Refused → Option Refused
+reason (Ok _) = None
+reason (Err r) = Some r
+
 -- the first reason against an edit
-abbrev pub refusal : Sheet → Edit → Option Refusal
+abbrev pub refusal : Sheet → Edit → Option Refused
 refusal s AddModule = where_true (nat_le 64 s.modules) TooManyModules
 refusal s (AddVariable m observed) = or_else (no_module s m) (full s)
 refusal s (AddCell m cell observed) = or_else (no_module s m) (full s)
@@ -97,3 +120,13 @@ edited_sheet s (Import v name alias from) place = change_row s v (defined_by (So
 edited_sheet s (Delete v) place = change_row s v undefined
 edited_sheet s (Redefine m cell) place =
     change_row s (the_one_named s m cell.name) (λ row. record row { body = Some (CellBody cell); place = place })
+
+-- the rows but the last
+abbrev pub all_but_last : List VarRow → List VarRow
+all_but_last [] = []
+all_but_last (row ∷ []) = []
+all_but_last (row ∷ next ∷ more) = row ∷ all_but_last (next ∷ more)
+
+-- the sheet without its last variable
+abbrev pub without_last : Sheet → Sheet
+without_last s = record s { rows = all_but_last s.rows }

@@ -3,8 +3,8 @@ use Rattle.std.specs.List.{position_from}
 use Rattle.std.specs.Str.{bytes_eq}
 use Rattle.nb_value.specs.declared.value.Value.{Value}
 use Rattle.nb_value.specs.declared.pairs.Field.{Field}
-use Rattle.nb_core.specs.Scan.{builtin_place}
-use Rattle.nb_core.proofs.names.builtin.Given as goal
+use Rattle.nb_resolve.specs.Scan.{builtin_place}
+use Rattle.nb_resolve.proofs.names.builtin.Given as goal
 
 -- not found so far
 abbrev pub invariant-loop-i : goal.invariant-loop-i
