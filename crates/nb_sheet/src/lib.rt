@@ -4,6 +4,7 @@
 mod edit;
 mod refused;
 mod row;
+mod rows;
 mod sheet;
 mod tree;
 

@@ -6,6 +6,7 @@ ghost use Rattle.nb_sheet.specs.Sheet.{empty_sheet, refusal, reason, edited_shee
 use crate::edit::Edit;
 use crate::refused::Refused;
 use crate::row::VarRow;
+use crate::rows::drop_last;
 use nb_value::{Pairs, Value};
 use std::alloc::{AllocError, Global};
 use std::marker::Model;
@@ -104,6 +105,6 @@ impl Sheet {
         requires { 0 < length self.old.rows }
         ensures { self.new ≡ without_last self.old }
     {
-        let _row = self.rows.pop();
+        drop_last(&mut self.rows);
     }
 }
