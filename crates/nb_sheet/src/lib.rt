@@ -1,7 +1,9 @@
 //! The sheet of a notebook: its modules and variables, and what edits make of them.
 #![tactic(auto)]
 
+mod checks;
 mod edit;
+mod names;
 mod refused;
 mod row;
 mod rows;

@@ -3,6 +3,7 @@ ghost use Rattle.std.specs.Option.{option_copied};
 ghost use Rattle.nb_sheet.specs.Lists.{nth};
 ghost use Rattle.nb_sheet.specs.Sheet.{empty_sheet, refusal, reason, edited_sheet, without_last, IsSheet};
 
+use crate::checks::refusal as first_reason;
 use crate::edit::Edit;
 use crate::refused::Refused;
 use crate::row::VarRow;
@@ -87,7 +88,10 @@ impl Sheet {
     pub fn check(&self, edit: &Edit) -> Result<(), Refused>
         ensures { reason result ≡ refusal self.now edit.now }
     {
-        Ok(())
+        match first_reason(self, edit) {
+            None => Ok(()),
+            Some(reason) => Err(reason),
+        }
     }
 
     /// Does an edit that isn't refused, which stands at this place of the log. It copies the edit's cell or names.
