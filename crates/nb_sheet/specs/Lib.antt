@@ -1,3 +1,4 @@
 pub mod Lists
 pub mod Sheet
+pub mod Scan
 pub mod Codes

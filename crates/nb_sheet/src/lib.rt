@@ -1,9 +1,12 @@
 //! The sheet of a notebook: its modules and variables, and what edits make of them.
 #![tactic(auto)]
 
+mod checks;
 mod edit;
+mod names;
 mod refused;
 mod row;
+mod rows;
 mod sheet;
 mod tree;
 

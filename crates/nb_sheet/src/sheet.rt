@@ -1,10 +1,13 @@
 ghost use Rattle.std.specs.Prelude.{◌≡◌, ◌≤◌, ◌<◌, length, None, IfOk, OnOk, OnErr};
 ghost use Rattle.std.specs.Option.{option_copied};
 ghost use Rattle.nb_sheet.specs.Lists.{nth};
-ghost use Rattle.nb_sheet.specs.Sheet.{empty_sheet, refusal, edited_sheet, IsSheet};
+ghost use Rattle.nb_sheet.specs.Sheet.{empty_sheet, refusal, reason, edited_sheet, without_last, IsSheet};
 
+use crate::checks::refusal as first_reason;
 use crate::edit::Edit;
+use crate::refused::Refused;
 use crate::row::VarRow;
+use crate::rows::drop_last;
 use nb_value::{Pairs, Value};
 use std::alloc::{AllocError, Global};
 use std::marker::Model;
@@ -80,6 +83,17 @@ impl Sheet {
         self.modules
     }
 
+    /// The first reason against an edit, if there is one: of those that it names the module, then the variable, then
+    /// the limits, as `Refused` lists them for its kind. It takes no memory, and costs a scan over the rows for a name.
+    pub fn check(&self, edit: &Edit) -> Result<(), Refused>
+        ensures { reason result ≡ refusal self.now edit.now }
+    {
+        match first_reason(self, edit) {
+            None => Ok(()),
+            Some(reason) => Err(reason),
+        }
+    }
+
     /// Does an edit that isn't refused, which stands at this place of the log. It copies the edit's cell or names.
     /// Where memory runs out, nothing has changed.
     pub fn apply(&mut self, edit: &Edit, place: u64) -> Result<(), AllocError>
@@ -88,5 +102,13 @@ impl Sheet {
         ensures err { OnErr result (self.new ≡ self.old) }
     {
         Err(AllocError)
+    }
+
+    /// Takes the last variable away again, for a caller that gives up the edit which made it. It takes no memory.
+    pub fn retract(&mut self)
+        requires { 0 < length self.old.rows }
+        ensures { self.new ≡ without_last self.old }
+    {
+        drop_last(&mut self.rows);
     }
 }
