@@ -129,7 +129,7 @@ fn fetches() -> [Row; 3] {
     ]
 }
 
-fn pulls() -> [Row; 14] {
+fn pulls() -> [Row; 10] {
     [
         ends("fetch(\"k\") + a", "Needs k"),
         Row {
@@ -175,6 +175,11 @@ fn pulls() -> [Row; 14] {
                 "Paused",
             )
         },
+    ]
+}
+
+fn cleanups() -> [Row; 4] {
+    [
         Row {
             cleanups: 1,
             ..ends("{ cleanup a; return 1; }", "Done 1")
@@ -306,6 +311,9 @@ fn charges_are_counted(rt: HostRuntime) -> Result<(), Fail> {
 #[test]
 fn cells_pause(rt: HostRuntime) -> Result<(), Fail> {
     for row in pulls() {
+        check(&rt, rt.alloc(), &row)?;
+    }
+    for row in cleanups() {
         check(&rt, rt.alloc(), &row)?;
     }
     law_of_answers();
