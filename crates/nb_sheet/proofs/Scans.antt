@@ -1,12 +1,15 @@
 -- Steps of the scan for a name.
-use Rattle.std.proofs.Common.{inl, inr, ℕ, suc, ◌≡◌, ◌+◌, ◌<◌, refl, sym, ◌∙◌, ap, Bool, true, false, cond, List, [], ◌∷◌, ◌++◌, append-nil, length, take, get_or, length-take, add-zero, arith, Option, Some, Result, Ok, Err}
-use Rattle.std.specs.Result.{result_err}
+use Rattle.std.proofs.Common.{inl, inr, ℕ, zero, suc, ◌≡◌, ◌+◌, ◌<◌, ◌≤◌, refl, sym, ◌∙◌, ap, Bool, true, false, cond, List, [], ◌∷◌, ◌++◌, append-nil, length, take, get_or, length-take, add-zero, arith, Option, Some, None, Result, Ok, Err}
+use Rattle.std.specs.Prelude.{not, is_some}
+use Rattle.std.proofs.lemmas.Option.{slice_get-get_or}
+use Rattle.std.specs.Result.{result_err, result_unwrap_or}
 use Rattle.std.proofs.lemmas.List.{take_more}
 use Rattle.std.proofs.lemmas.Bool.{cases_Bool}
-use Rattle.nb_sheet.specs.Lists.{Name, numbers_from}
+use Rattle.nb_sheet.specs.Lists.{Name, nth, numbers_from}
 use Rattle.nb_sheet.specs.declared.row.VarRow.{VarRow}
 use Rattle.nb_sheet.specs.declared.refused.Refused.{Refused}
-use Rattle.nb_sheet.specs.Sheet.{Sheet, named, not_once, no_one_named}
+use Rattle.nb_sheet.specs.declared.refused.Refused.TheVariants.{NoVariable}
+use Rattle.nb_sheet.specs.Sheet.{Sheet, named, not_once, no_one_named, no_variable, where_true, first_of, the_one_named}
 use Rattle.nb_sheet.specs.Scan.{also, has_name, one_of, one_in}
 
 numbers_from_push : {A : Type 0} (test : A → Bool) (k : ℕ) (xs : List A) (x : A) → numbers_from k test (xs ++ x ∷ []) ≡ numbers_from k test xs ++ cond (test x) ((k + length xs) ∷ []) []
@@ -59,3 +62,44 @@ pub why_not : (s : Sheet) (m : ℕ) (name : Option Name) (own n : Name) (rows : 
     → name ≡ Some own → n ≡ own → rows ≡ s.rows → found ≡ one_in m n rows → o ≡ result_err found → o ≡ no_one_named s m name
 why_not s m name own n rows found o is same all e r =
     r ∙ ap result_err (e ∙ ap (λ k. one_in m k rows) same ∙ ap (one_in m own) all) ∙ err_one (named s m own) ∙ sym (ap (no_one_named s m) is)
+
+-- the one that is found is there
+module _ (test : VarRow → Bool) where
+  numbers_there : (k : ℕ) (rows : List VarRow) (v : ℕ) (more : List ℕ) → numbers_from k test rows ≡ v ∷ more → (k ≤ v) × (v < k + length rows)
+  numbers_there k [] v more e = absurd (cc)
+  numbers_there k (x ∷ xs) v more e =
+      elim (cases_Bool (test x)) [
+        | inl here ↦
+            let f : k ∷ numbers_from (k + 1) test xs ≡ v ∷ more = rw here at e in
+            let same : k ≡ v = cc in
+            (omega arith, omega arith)
+        | inr not_here ↦
+            let f : numbers_from (k + 1) test xs ≡ v ∷ more = rw not_here at e in
+            let later = numbers_there (k + 1) xs v more f in
+            (omega arith, omega arith)
+      ]
+
+there_if : (rows : List VarRow) (v : ℕ) → 1 ≤ v → v < 1 + length rows → where_true (not (is_some (nth rows v))) NoVariable ≡ None
+there_if [] v low high = absurd (omega (arith, low, high))
+there_if (x ∷ xs) zero low high = absurd (omega (arith, low))
+there_if (x ∷ xs) (suc i) low high = rw (slice_get-get_or (x ∷ xs) i x (omega (arith, high))) refl
+
+-- by the list of those that have the name
+one_there : (test : VarRow → Bool) (rows : List VarRow) (vs : List ℕ) → numbers_from 1 test rows ≡ vs → not_once vs ≡ None → where_true (not (is_some (nth rows (first_of vs)))) NoVariable ≡ None
+one_there test rows [] e h = absurd (cc)
+one_there test rows (v ∷ []) e h = let p = numbers_there test 1 rows v [] e in there_if rows v p.0 p.1
+one_there test rows (v ∷ w ∷ more) e h = absurd (cc)
+
+first_one : (vs : List ℕ) → not_once vs ≡ None → result_unwrap_or (one_of vs) 0 ≡ first_of vs
+first_one [] h = refl
+first_one (v ∷ []) h = refl
+first_one (v ∷ w ∷ more) h = absurd (cc)
+
+pub the_one_is : (s : Sheet) (m : ℕ) (name : Option Name) (own n : Name) (rows : List VarRow) (found : Result ℕ Refused) (v : ℕ)
+    → no_one_named s m name ≡ None → name ≡ Some own → n ≡ own → rows ≡ s.rows → found ≡ one_in m n rows → v ≡ result_unwrap_or found 0
+    → (v ≡ the_one_named s m name) × (no_variable s v ≡ None)
+the_one_is s m name own n rows found v once is same all e r =
+    let none : not_once (named s m own) ≡ None = ap (no_one_named s m) (sym is) ∙ once in
+    let one : found ≡ one_in m own s.rows = e ∙ ap (λ k. one_in m k rows) same ∙ ap (one_in m own) all in
+    let first : v ≡ first_of (named s m own) = r ∙ ap (λ (o : Result ℕ Refused). result_unwrap_or o 0) one ∙ first_one (named s m own) none in
+    (first ∙ sym (ap (the_one_named s m) is), ap (no_variable s) first ∙ one_there (has_name m own) s.rows (named s m own) refl none)

@@ -1,8 +1,8 @@
 //! The reasons against an edit.
 
-ghost use Rattle.std.specs.Prelude.{◌≡◌};
+ghost use Rattle.std.specs.Prelude.{◌≡◌, None};
 ghost use Rattle.nb_sheet.specs.Lists.{or_else};
-ghost use Rattle.nb_sheet.specs.Sheet.{no_module as no_module_of, no_variable as no_variable_of, full as full_of, no_one_named as no_one_named_of, refusal as refusal_of};
+ghost use Rattle.nb_sheet.specs.Sheet.{no_module as no_module_of, no_variable as no_variable_of, full as full_of, no_one_named as no_one_named_of, the_one_named as the_one_named_of, refusal as refusal_of};
 
 use crate::edit::Edit;
 use crate::names::the_one;
@@ -47,6 +47,18 @@ fn no_one_named(sheet: &Sheet, within: u32, name: &Option<Text>) -> Option<Refus
     match name {
         None => Some(Refused::NotNamed),
         Some(name) => the_one(sheet.rows(), within, name.as_str()).err(),
+    }
+}
+
+/// The one variable of a module that has the name.
+pub fn the_one_named(sheet: &Sheet, within: u32, name: &Option<Text>) -> u32
+    requires { no_one_named_of sheet.now within name.now ≡ None }
+    ensures value { result ≡ the_one_named_of sheet.now within name.now }
+    ensures there { no_variable_of sheet.now result ≡ None }
+{
+    match name {
+        None => 0,
+        Some(name) => the_one(sheet.rows(), within, name.as_str()).unwrap_or(0),
     }
 }
 
