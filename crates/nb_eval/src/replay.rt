@@ -32,6 +32,8 @@ pub fn evaluate(alloc: Global, segment: Segment) -> Result<Finished, (Segment, A
 pub fn charges(alloc: Global, segment: &Segment) -> Result<u64, AllocError>
     ensures { IfOk result (λ n. n ≡ charges_of segment.now) }
 {
+    // The pulls bound the charges.
+    let _pulls = segment.pulls;
     let mut state = State::new(alloc);
     let outcome = eval_body(&segment.cell.body, alloc, segment, &mut state);
     without_want(outcome)?;
