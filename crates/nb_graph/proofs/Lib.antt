@@ -1,1 +1,4 @@
 pub mod Reaches
+pub mod Lists
+pub mod Marks
+pub mod Cycles
