@@ -5,3 +5,7 @@ pub mod Cycles
 pub mod Rising
 pub mod Finishing
 pub mod Paths
+pub mod Steps
+pub mod Closing
+pub mod Turns
+pub mod Ends

@@ -54,6 +54,9 @@ popped_at xs n x len some at r =
     (sym (get_or_read_under xs (n - 1) n x 0 at (omega (arith, some)) len ∙ ap (λ (m : ℕ). get_or xs (m - 1) 0) len))
     (popped xs (omega (arith, len, some)) r))
 
+pub popped_to : (xs rest : List ℕ) (n x : ℕ) → n ≡ length xs → 0 < n → x ≡ get_or xs (n - 1) x → rest ≡ take (n - 1) xs → Rises xs → IsPopped xs rest x
+popped_to xs rest n x len some at e r = subst (λ (l : List ℕ). IsPopped xs l x) (sym e) (popped_at xs n x len some at r)
+
 pub not_above : (all rest : List ℕ) (last x : ℕ) → IsPopped all rest last → has all x ≡ true → x ≤ last
 not_above all rest last x p h =
     elim (p.only x h) [ inl front ↦ omega (arith, p.below x front) | inr e ↦ omega (arith, e) ]

@@ -89,6 +89,7 @@ pub record IsFollowed (graph : List (List ℕ)) (j w : ℕ) (old new : Walk) : T
   pub walks : Walks graph new
   pub led : IsLed new.path.items new.bounds.items new.places.items j w
   pub node : get_or new.path.items j 0 ≡ get_or old.path.items j 0
+  pub path : length old.path.items ≤ length new.path.items
   pub same : new.explored.items ≡ old.explored.items
   pub work : length new.work.items ≤ length old.work.items + 1
   pub stays : StaysReached old.places.items new.places.items

@@ -122,11 +122,117 @@ impl Walk {
         self.places[v as usize] = at + FIRST;
         Ok(())
     }
+
+    /// Follows a need `w` of the node at `j`, the last that has needs to follow.
+    fn lead(&mut self, graph: &Graph, j: usize, w: u32) -> Result<(), AllocError>
+        requires walks { Walks graph.now self.old }
+        requires some { 0 < length self.old.work.items }
+        requires last { j ≡ slice_index self.old.work.items (length self.old.work.items - 1) }
+        requires edge { has (needs_of graph.now (slice_index self.old.path.items j)) w ≡ true }
+        requires node { w < length graph.now }
+        ensures { OnOk result (IsFollowed graph.now j w self.old self.new) }
+    {
+        let place = self.places[w as usize];
+        if place == NEW {
+            self.enter(graph, w)?;
+        } else if place >= FIRST {
+            narrow(&mut self.bounds, place - FIRST);
+        }
+        Ok(())
+    }
+
+    /// Follows the need at `k` of the node `v` at `j`, the last that has needs to follow.
+    fn follow(&mut self, graph: &Graph, j: usize, v: u32, k: usize) -> Result<(), AllocError>
+        requires walks { Walks graph.now self.old }
+        requires some { 0 < length self.old.work.items }
+        requires last { j ≡ slice_index self.old.work.items (length self.old.work.items - 1) }
+        requires node { v ≡ slice_index self.old.path.items j }
+        requires count { k ≡ slice_index self.old.explored.items v }
+        requires more { k < length (needs_of graph.now v) }
+        ensures { OnOk result (IsStep graph.now self.old self.new) }
+    {
+        let w = graph.needs(v)[k];
+        self.lead(graph, j, w)?;
+        self.explored[v as usize] = k + 1;
+        Ok(())
+    }
+
+    /// Closes the last group, which begins at `j` and has no needs left to follow.
+    fn close(&mut self, graph: &Graph, j: usize)
+        requires walks { Walks graph.now self.old }
+        requires some { 0 < length self.old.work.items }
+        requires last { j ≡ slice_index self.old.work.items (length self.old.work.items - 1) }
+        requires bounds { 0 < length self.old.bounds.items }
+        requires bound { j ≡ slice_index self.old.bounds.items (length self.old.bounds.items - 1) }
+        requires full { length (needs_of graph.now (slice_index self.old.path.items j)) ≤ slice_index self.old.explored.items (slice_index self.old.path.items j) }
+        ensures { IsStep graph.now self.old self.new }
+    {
+        let v = self.path[j];
+        let is_alone = j + 1 == self.path.len();
+        set_rank(&mut self.ranks, graph.needs(v), v, is_alone);
+        finish(&mut self.places, &self.path[j..]);
+        self.path.truncate(j);
+        self.bounds.pop();
+        self.work.pop();
+    }
+
+    /// Follows one need, or drops a node that has none left.
+    fn step(&mut self, graph: &Graph) -> Result<(), AllocError>
+        requires walks { Walks graph.now self.old }
+        requires some { 0 < length self.old.work.items }
+        ensures { OnOk result (IsStep graph.now self.old self.new) }
+    {
+        let j = self.work[self.work.len() - 1];
+        let v = self.path[j];
+        let k = self.explored[v as usize];
+        if k < graph.needs(v).len() {
+            self.follow(graph, j, v, k)?;
+        } else if self.bounds[self.bounds.len() - 1] == j {
+            self.close(graph, j);
+        } else {
+            self.work.pop();
+        }
+        Ok(())
+    }
+
+    /// Goes on until the path is empty.
+    fn go(&mut self, graph: &Graph) -> Result<(), AllocError>
+        requires { Walks graph.now self.old }
+        ensures walks { OnOk result (Walks graph.now self.new) }
+        ensures path { OnOk result (self.new.path.items ≡ []) }
+        ensures stays { OnOk result (StaysReached self.old.places.items self.new.places.items) }
+    {
+        while !self.work.is_empty() {
+            self.step(graph)?;
+        }
+        Ok(())
+    }
+
+    /// Walks from a node, unless it is reached already.
+    fn begin(&mut self, graph: &Graph, v: u32) -> Result<(), AllocError>
+        requires walks { Walks graph.now self.old }
+        requires node { v < length graph.now }
+        requires path { self.old.path.items ≡ [] }
+        ensures walks { OnOk result (Walks graph.now self.new) }
+        ensures path { OnOk result (self.new.path.items ≡ []) }
+        ensures reached { OnOk result (0 < slice_index self.new.places.items v) }
+        ensures stays { OnOk result (StaysReached self.old.places.items self.new.places.items) }
+    {
+        if self.places[v as usize] == NEW {
+            self.enter(graph, v)?;
+            self.go(graph)?;
+        }
+        Ok(())
+    }
 }
 
 /// The rank of each node.
 pub fn ranked(graph: &Graph) -> Result<Vec<u32>, AllocError>
     ensures { IfOk result (λ ranks. IsRanks graph.now ranks.items) }
 {
-    Err(AllocError)
+    let mut walk = Walk::new(graph.allocator(), graph.len())?;
+    for v in 0..graph.len() {
+        walk.begin(graph, v as u32)?;
+    }
+    Ok(walk.ranks)
 }
