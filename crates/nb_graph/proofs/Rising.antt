@@ -46,12 +46,16 @@ popped_along all rest last e r =
 pub popped : (xs : List ℕ) → 0 < length xs → Rises xs → IsPopped xs (take (length xs - 1) xs) (get_or xs (length xs - 1) 0)
 popped xs h r = popped_along xs (take (length xs - 1) xs) (get_or xs (length xs - 1) 0) (ends_in xs h) r
 
--- the same as a vector's last element is read
+-- how a vector's last element is read
+pub read_last : (xs : List ℕ) (n x : ℕ) → n ≡ length xs → 0 < n → x ≡ get_or xs (n - 1) x → x ≡ get_or xs (length xs - 1) 0
+read_last xs n x len some at = get_or_read_under xs (n - 1) n x 0 at (omega (arith, some)) len ∙ ap (λ (m : ℕ). get_or xs (m - 1) 0) len
+
+-- the last of a list, so read, is popped
 pub popped_at : (xs : List ℕ) (n x : ℕ) → n ≡ length xs → 0 < n → x ≡ get_or xs (n - 1) x → Rises xs → IsPopped xs (take (n - 1) xs) x
 popped_at xs n x len some at r =
     subst (λ (m : ℕ). IsPopped xs (take (m - 1) xs) x) (sym len)
     (subst (λ (y : ℕ). IsPopped xs (take (length xs - 1) xs) y)
-    (sym (get_or_read_under xs (n - 1) n x 0 at (omega (arith, some)) len ∙ ap (λ (m : ℕ). get_or xs (m - 1) 0) len))
+    (sym (read_last xs n x len some at))
     (popped xs (omega (arith, len, some)) r))
 
 pub popped_to : (xs rest : List ℕ) (n x : ℕ) → n ≡ length xs → 0 < n → x ≡ get_or xs (n - 1) x → rest ≡ take (n - 1) xs → Rises xs → IsPopped xs rest x

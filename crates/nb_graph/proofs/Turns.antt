@@ -1,15 +1,15 @@
 -- What each step of the code needs of the walk that it begins with.
 use Rattle.std.proofs.Common.{ℕ, zero, suc, ◌+◌, ◌-◌, ◌*◌, ◌^◌, ◌≡◌, ◌≢◌, ◌<◌, ◌≤◌, refl, sym, ◌∙◌, ap, true, false, ◌⊎◌, inl, inr, List, [], ◌∷◌, length, get_or, set, take, drop, map, arith, subst, get_or-drop, length-drop}
-use Rattle.std.proofs.lemmas.Bool.{cases_lt}
+use Rattle.std.proofs.lemmas.List.{get_or_read}
 use Rattle.nb_graph.specs.Needs.{has, Needs}
 use Rattle.nb_graph.specs.Graph.{needs_of, rank_in, greatest, IsGraph}
 use Rattle.nb_graph.specs.Walks.{Reaches, IsWalk, Walks, IsFollowed, IsLed, IsNarrowed, count_done, left, effort}
 use Rattle.nb_graph.specs.declared.ranks.Walk.{Walk}
 use Rattle.nb_graph.proofs.Lists.{has_index, index_has, greatest_le}
-use Rattle.nb_graph.proofs.Rising.{IsPopped, popped, not_above, has_some}
+use Rattle.nb_graph.proofs.Rising.{IsPopped, popped, popped_at, read_last, not_above, has_some}
 use Rattle.nb_graph.proofs.Finishing.{count_below}
 use Rattle.nb_graph.proofs.Paths.{to_last, reaches_need}
-use Rattle.nb_graph.proofs.Steps.{place_of, walk_narrowed, walk_advanced}
+use Rattle.nb_graph.proofs.Steps.{place_of, walk_narrowed, walk_advanced, walk_left}
 
 module _ (graph : List (List ℕ)) (path bounds work places explored ranks : List ℕ) (w : IsWalk graph path bounds work places explored ranks)
   (j : ℕ) (some : 0 < length work) (last : j ≡ get_or work (length work - 1) 0) where
@@ -98,3 +98,47 @@ module _ (graph : List (List ℕ)) (old mid : Walk) (j v k u : ℕ) (w : Walks g
   pub followed_falls : 2 * left graph (set mid.explored.items v (k + 1)) + length mid.work.items < effort graph old
   followed_falls =
       omega (arith, left_falls graph mid.explored.items v k f.walks.explored_each count_mid more, ap (λ (l : List ℕ). left graph l) f.same, f.work)
+
+-- ---- the step, by what it reads
+
+-- the last index j with needs to follow, and its node v
+pub record IsTurn (graph : List (List ℕ)) (s : Walk) (j v : ℕ) : Type 0 where
+  pub last : j ≡ get_or s.work.items (length s.work.items - 1) 0
+  pub low : j < length s.path.items
+  pub here : v ≡ get_or s.path.items j 0
+  pub node : v < length graph
+  pub inside : v < length s.explored.items
+  pub some_bounds : 0 < length s.bounds.items
+
+module _ (graph : List (List ℕ)) (s : Walk) (w : Walks graph s) (some : 0 < length s.work.items) (n j : ℕ) (len : n ≡ length s.work.items) (last : j ≡ get_or s.work.items (n - 1) j) where
+  turn_last : j ≡ get_or s.work.items (length s.work.items - 1) 0
+  turn_last = read_last s.work.items n j len (omega (arith, some, len)) last
+
+  pub turn_low : j < length s.path.items
+  turn_low = last_low graph s.path.items s.bounds.items s.work.items s.places.items s.explored.items s.ranks.items w j some turn_last
+
+  pub turn : (v : ℕ) → v ≡ get_or s.path.items j v → IsTurn graph s j v
+  turn v at =
+      let here : v ≡ get_or s.path.items j 0 = get_or_read s.path.items j v turn_low at 0 in
+      let node : get_or s.path.items j 0 < length graph = last_node graph s.path.items s.bounds.items s.work.items s.places.items s.explored.items s.ranks.items w j some turn_last in
+      record {
+        last = turn_last;
+        low = turn_low;
+        here = here;
+        node = omega (arith, here, node);
+        inside = omega (arith, here, node, w.explored_each);
+        some_bounds = some_bounds graph s.path.items s.bounds.items s.work.items s.places.items s.explored.items s.ranks.items w j some turn_last;
+      }
+
+-- a node with no needs left, whose group has more to follow
+pub left_walks : (graph : List (List ℕ)) (s : Walk) (w : Walks graph s) (j v k m b : ℕ) (rest : List ℕ) → IsTurn graph s j v → 0 < length s.work.items → k ≡ get_or s.explored.items v 0 → length (needs_of graph v) ≤ k
+    → m ≡ length s.bounds.items → b ≡ get_or s.bounds.items (m - 1) b → b ≢ j → rest ≡ take (length s.work.items - 1) s.work.items
+    → IsWalk graph s.path.items s.bounds.items rest s.places.items s.explored.items s.ranks.items
+left_walks graph s w j v k m b rest t some count full len at differs e =
+    let p : IsPopped s.work.items (take (length s.work.items - 1) s.work.items) j =
+    last_of_work graph s.path.items s.bounds.items s.work.items s.places.items s.explored.items s.ranks.items w j some t.last in
+    let q : IsPopped s.bounds.items (take (m - 1) s.bounds.items) b = popped_at s.bounds.items m b len (omega (arith, len, t.some_bounds)) at w.in_work.bounds_rise in
+    walk_left graph s.path.items s.bounds.items s.work.items s.places.items s.explored.items s.ranks.items w
+    j rest (subst (λ (l : List ℕ). IsPopped s.work.items l j) (sym e) p)
+    (not_a_bound graph s.path.items s.bounds.items s.work.items s.places.items s.explored.items s.ranks.items w j some t.last (take (m - 1) s.bounds.items) b q differs)
+    (subst (λ (x : ℕ). length (needs_of graph x) ≤ get_or s.explored.items x 0) t.here (omega (arith, full, count)))

@@ -1,4 +1,4 @@
-use Rattle.std.proofs.Common.{ℕ, List, ◌≡◌, ◌∙◌, ◌<◌, ◌≤◌, ◌-◌, ◌+◌, ◌^◌, refl, sym, ap, get_or, length, map, take, drop, arith, subst}
+use Rattle.std.proofs.Common.{ℕ, List, ◌≡◌, ◌∙◌, ◌<◌, ◌≤◌, ◌-◌, ◌+◌, ◌^◌, refl, sym, ap, get_or, length, map, take, drop, arith, subst, length-take}
 use Rattle.std.specs.Prelude.{true}
 use Rattle.std.proofs.lemmas.List.{take_rest, with_items_is, get_or_read}
 use Rattle.std.specs.Vec.{with_items}
@@ -55,6 +55,6 @@ returns c =
     record {
       walks = subst (λ (l : List ℕ). IsWalk c.args.graph.now c.truncate.new.self.items c.pop.new.self.items c.pop-2.new.self.items l s.explored.items (with_items s.ranks c.set_rank.new.ranks).items) (sym places_is)
       (subst (λ (l : List ℕ). IsWalk c.args.graph.now c.truncate.new.self.items c.pop.new.self.items c.pop-2.new.self.items c.finish.new.places s.explored.items l) (sym ranks_is) walks);
-      falls = omega arith;
+      falls = omega (arith, ap (λ (l : List ℕ). length l) c.pop-2.ensures.rest, length-take (s.work.len - 1) s.work.items, c.requires.some);
       stays = subst (λ (l : List ℕ). StaysReached s.places.items l) (sym places_is) stays;
     }
