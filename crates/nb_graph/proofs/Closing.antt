@@ -13,8 +13,8 @@ use Rattle.nb_graph.proofs.Paths.{reaches_along, reaches_needs, needs_reaches}
 use Rattle.nb_graph.proofs.Steps.{place_of, same_place}
 
 module _ (graph : List (List ℕ)) (path bounds work places explored ranks : List ℕ) (w : IsWalk graph path bounds work places explored ranks)
-  (j : ℕ) (rest restb places' : List ℕ) (pw : IsPopped work rest j) (pb : IsPopped bounds restb j)
-  (full : length (needs_of graph (get_or path j 0)) ≤ get_or explored (get_or path j 0) 0) (f : IsFinished (drop j path) places places') where
+    (j : ℕ) (rest restb places' : List ℕ) (pw : IsPopped work rest j) (pb : IsPopped bounds restb j)
+    (full : length (needs_of graph (get_or path j 0)) ≤ get_or explored (get_or path j 0) 0) (f : IsFinished (drop j path) places places') where
   low : j < length path
   low = w.in_work.inside j pw.last_in
 
@@ -279,10 +279,9 @@ module _ (graph : List (List ℕ)) (path bounds work places explored ranks : Lis
                   (at_once (subst (λ (y : ℕ). has (needs_of graph y) y ≡ true) here itself))
               | inr apart ↦
                   let s : ranks' ≡ set ranks x (1 + greatest (map (rank_in ranks) (needs_of graph x))) =
-                  by true (ap (λ (b : Bool). b && not (has (needs_of graph x) x)) alone ∙ ap (λ (b : Bool). not b) apart) in
-                  (
+                  by true (ap (λ (b : Bool). b && not (has (needs_of graph x) x)) alone ∙ ap (λ (b : Bool). not b) apart) in (
                     subst (λ (l : List ℕ). IsRanked (needs_of graph) places' l) (sym s) (ranked_alone n (subst (λ (y : ℕ). has (needs_of graph y) y ≡ false) here apart)
-                    x (1 + greatest (map (rank_in ranks) (needs_of graph x))) here refl),
+                        x (1 + greatest (map (rank_in ranks) (needs_of graph x))) here refl),
                     ap (λ (l : List ℕ). length l) s ∙ length-set ranks x (1 + greatest (map (rank_in ranks) (needs_of graph x))),
                   )
             ]

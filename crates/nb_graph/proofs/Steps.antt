@@ -41,10 +41,15 @@ module _ (graph : List (List ℕ)) (path bounds work places explored ranks : Lis
                 sym (ap (λ (y : ℕ). has (take (get_or explored y 0) (needs_of graph y)) x) (old_node p less)) ∙ k in
                 elim (w.followed.led p x less k') [
                   | inl done ↦ inl (other x (λ e. omega (arith, done, ap (λ (y : ℕ). get_or places y 0) e, unseen)) ∙ done)
-                  | inr t ↦ inr (t.0, omega (arith, t.1, length_push path v), old_node t.0 t.1 ∙ t.2, λ c hc le. elim (has_push bounds (length path) c hc) [
-                    | inl front ↦ t.3 c front le
-                    | inr e ↦ absurd (omega (arith, e, le, less))
-                  ])
+                  | inr t ↦ inr (
+                    t.0,
+                    omega (arith, t.1, length_push path v),
+                    old_node t.0 t.1 ∙ t.2,
+                    λ c hc le. elim (has_push bounds (length path) c hc) [
+                      | inl front ↦ t.3 c front le
+                      | inr e ↦ absurd (omega (arith, e, le, less))
+                    ],
+                  )
                 ]
             | inr e ↦
                 let none : get_or explored (get_or (path ++ v ∷ []) p 0) 0 ≡ 0 = ap (λ (y : ℕ). get_or explored y 0) (new_node p e) ∙ w.followed.fresh v unseen in
@@ -75,11 +80,11 @@ module _ (graph : List (List ℕ)) (path bounds work places explored ranks : Lis
           in_work = work_entered (needs_of graph) path bounds work places w.on_path w.in_work v inside unseen;
           followed = explored_entered;
           ranked = ranked_along (needs_of graph) places (set places v (length path + 2)) ranks w.ranked (sym (length-set places v (length path + 2)))
-          (λ x h. other x (λ e. omega (arith, h, ap (λ (y : ℕ). get_or places y 0) e, unseen)) ∙ h)
-          (λ x h. elim (cases_eq x v) [
-            | inl same ↦ absurd (omega (arith, h, ap (λ (y : ℕ). get_or (set places v (length path + 2)) y 0) same, new))
-            | inr differs ↦ sym (other x differs) ∙ h
-          ]);
+              (λ x h. other x (λ e. omega (arith, h, ap (λ (y : ℕ). get_or places y 0) e, unseen)) ∙ h)
+              (λ x h. elim (cases_eq x v) [
+                | inl same ↦ absurd (omega (arith, h, ap (λ (y : ℕ). get_or (set places v (length path + 2)) y 0) same, new))
+                | inr differs ↦ sym (other x differs) ∙ h
+              ]);
         }
 
   -- groups join
@@ -112,7 +117,7 @@ module _ (graph : List (List ℕ)) (path bounds work places explored ranks : Lis
 
   -- the next need of the node v at j has been followed
   module _ (j v k : ℕ) (low : j < length path) (here : v ≡ get_or path j 0) (count : k ≡ get_or explored v 0) (more : k < length (needs_of graph v))
-    (there : IsLed path bounds places j (get_or (needs_of graph v) k 0)) where
+      (there : IsLed path bounds places j (get_or (needs_of graph v) k 0)) where
     advanced_same : get_or (set explored v (k + 1)) v 0 ≡ k + 1
     advanced_same =
         let node : v < length explored = omega (arith, place_of j low, here, w.explored_each) in
@@ -131,9 +136,9 @@ module _ (graph : List (List ℕ)) (path bounds work places explored ranks : Lis
         sym (ap (λ (n : ℕ). has (take n (needs_of graph v)) x) advanced_same ∙ ap (λ (l : List ℕ). has l x) (take_more (needs_of graph v) k 0 more)) ∙ h in
         elim (has_push (take k (needs_of graph v)) (get_or (needs_of graph v) k 0) x h') [
           | inl front ↦ w.followed.led j x low (
-            subst (λ (y : ℕ). has (take (get_or explored y 0) (needs_of graph y)) x ≡ true) here
-            (ap (λ (n : ℕ). has (take n (needs_of graph v)) x) (sym count) ∙ front)
-          )
+              subst (λ (y : ℕ). has (take (get_or explored y 0) (needs_of graph y)) x ≡ true) here
+              (ap (λ (n : ℕ). has (take n (needs_of graph v)) x) (sym count) ∙ front)
+              )
           | inr e ↦ subst (λ (y : ℕ). IsLed path bounds places j y) e there
         ]
 

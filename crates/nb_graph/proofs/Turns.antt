@@ -12,7 +12,7 @@ use Rattle.nb_graph.proofs.Paths.{to_last, reaches_need}
 use Rattle.nb_graph.proofs.Steps.{place_of, walk_narrowed, walk_advanced, walk_left}
 
 module _ (graph : List (List ℕ)) (path bounds work places explored ranks : List ℕ) (w : IsWalk graph path bounds work places explored ranks)
-  (j : ℕ) (some : 0 < length work) (last : j ≡ get_or work (length work - 1) 0) where
+    (j : ℕ) (some : 0 < length work) (last : j ≡ get_or work (length work - 1) 0) where
   pub last_of_work : IsPopped work (take (length work - 1) work) j
   last_of_work = subst (λ (x : ℕ). IsPopped work (take (length work - 1) work) x) (sym last) (popped work some w.in_work.rises)
 
@@ -82,7 +82,7 @@ left_falls (ns ∷ graph) (x ∷ explored) (suc v) k e c h = omega (arith, left_
 -- ---- a step that follows a need
 
 module _ (graph : List (List ℕ)) (old mid : Walk) (j v k u : ℕ) (w : Walks graph old) (low : j < length old.path.items) (here : v ≡ get_or old.path.items j 0)
-  (count : k ≡ get_or old.explored.items v 0) (more : k < length (needs_of graph v)) (need : u ≡ get_or (needs_of graph v) k 0) (f : IsFollowed graph j u old mid) where
+    (count : k ≡ get_or old.explored.items v 0) (more : k < length (needs_of graph v)) (need : u ≡ get_or (needs_of graph v) k 0) (f : IsFollowed graph j u old mid) where
   pub node_inside : v < length mid.explored.items
   node_inside =
       omega (arith, here, place_of graph old.path.items old.bounds.items old.work.items old.places.items old.explored.items old.ranks.items w j low, w.explored_each, ap (λ (l : List ℕ). length l) f.same)

@@ -49,9 +49,9 @@ returns-else-index-j c =
     let e : s.work.len ≡ length s.work.items = omega arith in
     record {
       walks = left_walks c.args.graph.now s c.requires.walks c.index-j.result.now c.index-v.result.now c.index-k.result.now c.len-else-k-needs.result c.index.result.now c.pop.new.self.items
-      t c.requires.some (get_or_read s.explored.items c.index-v.result.now c.index-k.result.now t.inside c.index-k.ensures 0)
-      (omega (arith, c.if-k-needs.false, ap (λ (l : List ℕ). length l) c.needs.ensures.value)) (omega arith) c.index.ensures c.if-index-j.false
-      (c.pop.ensures.rest ∙ ap (λ (n : ℕ). take (n - 1) s.work.items) e);
+          t c.requires.some (get_or_read s.explored.items c.index-v.result.now c.index-k.result.now t.inside c.index-k.ensures 0)
+          (omega (arith, c.if-k-needs.false, ap (λ (l : List ℕ). length l) c.needs.ensures.value)) (omega arith) c.index.ensures c.if-index-j.false
+          (c.pop.ensures.rest ∙ ap (λ (n : ℕ). take (n - 1) s.work.items) e);
       falls = omega (arith, ap (λ (l : List ℕ). length l) c.pop.ensures.rest, length-take (s.work.len - 1) s.work.items, c.requires.some);
       stays = λ x h. h;
     }
