@@ -1,11 +1,11 @@
 -- The last group is closed: its nodes are done, with their ranks.
-use Rattle.std.proofs.Common.{ℕ, zero, suc, ◌+◌, ◌-◌, ◌≡◌, ◌≢◌, ◌<◌, ◌≤◌, refl, sym, ◌∙◌, ap, Bool, true, false, ◌⊎◌, inl, inr, List, [], ◌∷◌, ◌++◌, length, get_or, set, take, drop, map, arith, subst, get_or-set_same, get_or-set_other, length-set, length-drop, get_or-drop, get_or-take, length-take-le}
+use Rattle.std.proofs.Common.{ℕ, ◌+◌, ◌-◌, ◌≡◌, ◌≢◌, ◌<◌, ◌≤◌, refl, sym, ◌∙◌, ap, Bool, true, false, ◌⊎◌, inl, inr, List, length, get_or, set, take, drop, map, arith, subst, get_or-set_same, get_or-set_other, length-set, length-drop, get_or-drop, get_or-take, length-take-le}
 use Rattle.std.specs.Prelude.{◌==◌, ◌&&◌, not, cond}
 use Rattle.std.proofs.lemmas.Bool.{cases_lt, cases_eq, cases_Bool, false≢true, eqb-true, eq-eqb}
 use Rattle.std.proofs.lemmas.List.{take_all}
 use Rattle.nb_graph.specs.Needs.{has, Needs, at_once, through}
 use Rattle.nb_graph.specs.Graph.{needs_of, rank_in, greatest}
-use Rattle.nb_graph.specs.Walks.{Reaches, IsPath, IsWork, IsExplored, IsRanked, IsWalk, IsLed, IsFinished, StaysReached, count_done, with_rank}
+use Rattle.nb_graph.specs.Walks.{Reaches, IsPath, IsWork, IsExplored, IsRanked, IsWalk, IsFinished, StaysReached, count_done, with_rank}
 use Rattle.nb_graph.proofs.Lists.{has_index, index_has, rank_at, map_agree, greatest_le}
 use Rattle.nb_graph.proofs.Rising.{IsPopped, not_above}
 use Rattle.nb_graph.proofs.Finishing.{count_le, count_lt}

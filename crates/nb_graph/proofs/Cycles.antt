@@ -1,12 +1,12 @@
 -- The nodes that need themselves, by their ranks.
-use Rattle.std.proofs.Common.{ℕ, zero, suc, ◌+◌, ◌≡◌, ◌<◌, ◌≤◌, ◌≢◌, refl, sym, ◌∙◌, ap, Bool, true, false, ◌⊎◌, inl, inr, List, [], ◌∷◌, length, get_or, map, arith, eqb}
+use Rattle.std.proofs.Common.{ℕ, zero, suc, ◌+◌, ◌≡◌, ◌<◌, ◌≤◌, refl, sym, ◌∙◌, ap, Bool, true, false, ◌⊎◌, inl, inr, List, [], ◌∷◌, length, get_or, map, arith}
 use Rattle.std.specs.Prelude.{◌==◌, Some}
-use Rattle.std.specs.List.{slice_get, range_with_len}
+use Rattle.std.specs.List.{range_with_len}
 use Rattle.std.proofs.lemmas.Bool.{false≢true, cases_Bool, eqb-true, eq-eqb, cases_eq}
 use Rattle.std.proofs.lemmas.List.{length-map}
 use Rattle.std.proofs.lemmas.Option.{slice_get-get_or, get_or_from_slice_get, slice_get_within}
-use Rattle.nb_graph.specs.Needs.{has, Needs, all_needed}
-use Rattle.nb_graph.specs.Graph.{needs_of, needs_itself, rank_in, greatest, IsGraph, IsRanks, IsMarks}
+use Rattle.nb_graph.specs.Needs.{has, all_needed}
+use Rattle.nb_graph.specs.Graph.{needs_of, needs_itself, rank_in, IsGraph, IsRanks, IsMarks}
 use Rattle.nb_graph.proofs.Reaches.{has_head, has_tail, needed_sound, needed_complete}
 use Rattle.nb_graph.proofs.Lists.{rank_at}
 

@@ -1,13 +1,12 @@
 -- The step that closes a group, as the code makes it, and the end of the walk.
-use Rattle.std.proofs.Common.{ℕ, zero, suc, ◌+◌, ◌-◌, ◌*◌, ◌≡◌, ◌≢◌, ◌<◌, ◌≤◌, refl, sym, ◌∙◌, ap, Bool, true, false, ◌⊎◌, inl, inr, List, [], ◌∷◌, length, get_or, set, take, drop, map, arith, subst}
+use Rattle.std.proofs.Common.{ℕ, zero, suc, ◌+◌, ◌-◌, ◌≡◌, ◌<◌, ◌≤◌, refl, sym, ◌∙◌, ap, inl, inr, List, [], length, get_or, take, drop, arith, subst}
 use Rattle.std.specs.Prelude.{◌==◌, replicate}
 use Rattle.std.proofs.lemmas.Bool.{cases_lt, false≢true}
-use Rattle.std.proofs.lemmas.List.{take_rest, get_or_default, get_or-replicate, get_or_past, length-replicate, nil_from_length}
-use Rattle.nb_graph.specs.Needs.{has, Needs}
-use Rattle.nb_graph.specs.Graph.{needs_of, rank_in, greatest, IsGraph, IsRanks}
-use Rattle.nb_graph.specs.Walks.{IsWalk, IsFinished, IsRanked, StaysReached, with_rank, count_done}
+use Rattle.std.proofs.lemmas.List.{take_rest, get_or_default, length-replicate}
+use Rattle.nb_graph.specs.Graph.{needs_of, rank_in, IsRanks}
+use Rattle.nb_graph.specs.Walks.{IsWalk, IsFinished, StaysReached, with_rank}
 use Rattle.nb_graph.proofs.Lists.{rank_at}
-use Rattle.nb_graph.proofs.Rising.{IsPopped, popped_to, has_some}
+use Rattle.nb_graph.proofs.Rising.{IsPopped, popped_to}
 use Rattle.nb_graph.proofs.Closing.{walk_closed, closed_stays}
 
 finished_seen : (j : ℕ) (path path' places places' new : List ℕ) → path' ≡ path → places' ≡ places → IsFinished (take (length path' - j) (drop j path')) places' new → IsFinished (drop j path) places new

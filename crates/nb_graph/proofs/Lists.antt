@@ -1,11 +1,10 @@
 -- Lists of numbers: what is in them, at which index, and how a graph changes by a `set`.
-use Rattle.std.proofs.Common.{ℕ, zero, suc, ◌+◌, ◌-◌, ◌≡◌, ◌<◌, ◌≤◌, refl, sym, ◌∙◌, ap, Bool, true, false, ◌⊎◌, inl, inr, List, [], ◌∷◌, ◌++◌, length, get_or, set, take, drop, map, max, arith, Option, Some, None}
-use Rattle.std.specs.List.{slice_get}
+use Rattle.std.proofs.Common.{ℕ, zero, suc, ◌+◌, ◌-◌, ◌≡◌, ◌<◌, ◌≤◌, refl, sym, ◌∙◌, ap, true, ◌⊎◌, inl, inr, List, [], ◌∷◌, ◌++◌, length, get_or, set, take, map, arith}
 use Rattle.std.specs.Prelude.{replicate}
-use Rattle.std.proofs.lemmas.Bool.{false≢true, cases_lt, cases_eq}
+use Rattle.std.proofs.lemmas.Bool.{false≢true, cases_lt}
 use Rattle.std.proofs.lemmas.List.{take_more, take_all}
 use Rattle.nb_graph.specs.Needs.{has}
-use Rattle.nb_graph.specs.Graph.{needs_of, or_nothing, with_needs, rank_in, or_zero, greatest, IsGraph}
+use Rattle.nb_graph.specs.Graph.{needs_of, with_needs, rank_in, greatest}
 use Rattle.nb_graph.proofs.Reaches.{has_head, has_tail, has_cases}
 
 -- ---- what is in a list with one more at the end

@@ -1,13 +1,12 @@
 -- Marks of what is reached.
-use Rattle.std.proofs.Common.{ℕ, zero, suc, ◌+◌, ◌≡◌, ◌<◌, ◌≤◌, ◌≢◌, refl, sym, ◌∙◌, ap, subst, Bool, true, false, ◌⊎◌, inl, inr, List, [], ◌∷◌, ◌++◌, length, get_or, set, take, arith, length-set, get_or-set_same, get_or-set_other, length-append}
+use Rattle.std.proofs.Common.{ℕ, zero, suc, ◌+◌, ◌≡◌, ◌<◌, refl, sym, ◌∙◌, ap, subst, Bool, true, false, ◌⊎◌, inl, inr, List, [], ◌∷◌, ◌++◌, length, get_or, set, take, arith, length-set, get_or-set_same, get_or-set_other}
 use Rattle.std.specs.Prelude.{replicate}
-use Rattle.std.specs.List.{slice_get}
-use Rattle.std.proofs.lemmas.Bool.{false≢true, cases_eq, cases_lt, cases_Bool}
+use Rattle.std.proofs.lemmas.Bool.{false≢true, cases_eq, cases_lt}
 use Rattle.std.proofs.lemmas.List.{take_more, length_push, get_or_past, length-replicate}
 use Rattle.std.proofs.lemmas.Option.{slice_get-get_or, get_or_from_slice_get}
 use Rattle.std.specs.Prelude.{Some}
 use Rattle.nb_graph.specs.Needs.{has, Needs, at_once, through}
-use Rattle.nb_graph.specs.Graph.{needs_of, IsReached, IsMarks, IsGraph}
+use Rattle.nb_graph.specs.Graph.{needs_of, IsReached, IsMarks}
 use Rattle.nb_graph.specs.Marking.{unmarked, IsMarked}
 use Rattle.nb_graph.proofs.Lists.{has_front, has_end, has_push}
 

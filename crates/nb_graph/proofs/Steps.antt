@@ -1,14 +1,14 @@
 -- The steps of a walk that rank no node: one is entered, groups join, a need is followed, a node has no needs left.
-use Rattle.std.proofs.Common.{ℕ, zero, suc, ◌+◌, ◌≡◌, ◌≢◌, ◌<◌, ◌≤◌, refl, sym, ◌∙◌, ap, true, ◌⊎◌, inl, inr, List, [], ◌∷◌, ◌++◌, length, get_or, set, take, arith, subst, get_or-set_same, get_or-set_other, length-set}
+use Rattle.std.proofs.Common.{ℕ, ◌+◌, ◌≡◌, ◌≢◌, ◌<◌, ◌≤◌, sym, ◌∙◌, ap, true, inl, inr, List, [], ◌∷◌, ◌++◌, length, get_or, set, take, arith, subst, get_or-set_same, get_or-set_other, length-set}
 use Rattle.std.proofs.lemmas.Bool.{cases_lt, cases_eq, false≢true}
 use Rattle.std.proofs.lemmas.List.{take_more, length_push, get_or_past}
-use Rattle.nb_graph.specs.Needs.{has, Needs}
+use Rattle.nb_graph.specs.Needs.{has}
 use Rattle.nb_graph.specs.Graph.{needs_of}
-use Rattle.nb_graph.specs.Walks.{Reaches, IsPath, IsWork, IsExplored, IsRanked, IsWalk, IsLed, IsNarrowed, count_done}
+use Rattle.nb_graph.specs.Walks.{Reaches, IsExplored, IsRanked, IsWalk, IsLed, IsNarrowed}
 use Rattle.nb_graph.proofs.Lists.{has_front, has_end, has_push}
 use Rattle.nb_graph.proofs.Rising.{IsPopped}
 use Rattle.nb_graph.proofs.Finishing.{count_le}
-use Rattle.nb_graph.proofs.Paths.{path_narrowed, work_narrowed, path_entered, work_entered, place_other, place_new, node_old, node_new, ends_at, old_other}
+use Rattle.nb_graph.proofs.Paths.{path_narrowed, work_narrowed, path_entered, work_entered, place_other, place_new, node_old, node_new, ends_at}
 
 -- where the same nodes are done
 ranked_along : (direct : ℕ → List ℕ) (places places' ranks : List ℕ) → IsRanked direct places ranks → length places ≡ length places'

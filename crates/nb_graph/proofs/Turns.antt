@@ -1,11 +1,11 @@
 -- What each step of the code needs of the walk that it begins with.
-use Rattle.std.proofs.Common.{ℕ, zero, suc, ◌+◌, ◌-◌, ◌*◌, ◌^◌, ◌≡◌, ◌≢◌, ◌<◌, ◌≤◌, refl, sym, ◌∙◌, ap, true, false, ◌⊎◌, inl, inr, List, [], ◌∷◌, length, get_or, set, take, drop, map, arith, subst, get_or-drop, length-drop}
+use Rattle.std.proofs.Common.{ℕ, zero, suc, ◌+◌, ◌-◌, ◌*◌, ◌^◌, ◌≡◌, ◌≢◌, ◌<◌, ◌≤◌, sym, ◌∙◌, ap, true, inr, List, [], ◌∷◌, length, get_or, set, take, drop, map, arith, subst, get_or-drop, length-drop}
 use Rattle.std.proofs.lemmas.List.{get_or_read}
-use Rattle.nb_graph.specs.Needs.{has, Needs}
+use Rattle.nb_graph.specs.Needs.{has}
 use Rattle.nb_graph.specs.Graph.{needs_of, rank_in, greatest, IsGraph}
 use Rattle.nb_graph.specs.Walks.{Reaches, IsWalk, Walks, IsFollowed, IsLed, IsNarrowed, count_done, left, effort}
 use Rattle.nb_graph.specs.declared.ranks.Walk.{Walk}
-use Rattle.nb_graph.proofs.Lists.{has_index, index_has, greatest_le}
+use Rattle.nb_graph.proofs.Lists.{has_index, greatest_le}
 use Rattle.nb_graph.proofs.Rising.{IsPopped, popped, popped_at, read_last, not_above, has_some}
 use Rattle.nb_graph.proofs.Finishing.{count_below}
 use Rattle.nb_graph.proofs.Paths.{to_last, reaches_need}

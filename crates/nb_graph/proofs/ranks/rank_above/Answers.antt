@@ -1,4 +1,4 @@
-use Rattle.std.proofs.Common.{◌<◌, length, get_or, refl, arith}
+use Rattle.std.proofs.Common.{◌<◌, length, get_or, arith}
 use Rattle.nb_graph.proofs.Lists.{index_has}
 use Rattle.nb_graph.proofs.Finishing.{greatest_more}
 use Rattle.nb_graph.proofs.ranks.rank_above.Goals as goal

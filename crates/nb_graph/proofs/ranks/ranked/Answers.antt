@@ -1,4 +1,4 @@
-use Rattle.std.proofs.Common.{ℕ, ◌≡◌, ◌<◌, length, get_or, arith}
+use Rattle.std.proofs.Common.{arith}
 use Rattle.nb_graph.proofs.Ends.{walk_begun, walk_ended}
 use Rattle.nb_graph.proofs.ranks.ranked.Goals as goal
 

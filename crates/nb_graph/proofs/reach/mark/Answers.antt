@@ -1,6 +1,4 @@
-use Rattle.std.proofs.Common.{Vec, Global, ◌≡◌, ◌<◌, ◌+◌, ◌∙◌, sym, ap, length, get_or, take, List, ℕ, Bool, false, true, ◌++◌, ◌∷◌, [], set, refl, arith, subst}
-use Rattle.std.proofs.lemmas.List.{take_more}
-use Rattle.nb_graph.specs.Marking.{IsMarked}
+use Rattle.std.proofs.Common.{Vec, Global, ◌<◌, ◌∙◌, ap, length, get_or, ℕ, arith}
 use Rattle.nb_graph.proofs.Lists.{index_has}
 use Rattle.nb_graph.proofs.Marks.{mark_skips, mark_sets}
 use Rattle.nb_graph.proofs.reach.mark.Goals as goal

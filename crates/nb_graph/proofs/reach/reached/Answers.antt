@@ -1,4 +1,4 @@
-use Rattle.std.proofs.Common.{◌≡◌, ◌<◌, ◌∙◌, sym, ap, length, take, drop, ◌++◌, List, ℕ, Bool, arith, subst}
+use Rattle.std.proofs.Common.{◌≡◌, sym, length, take, drop, ◌++◌, List, Bool, arith, subst}
 use Rattle.std.proofs.lemmas.List.{take_at, nil_from_length}
 use Rattle.nb_graph.proofs.Marks.{IsReaching, waiting_inside, reaching_more, reaching_end}
 use Rattle.nb_graph.proofs.reach.reached.Goals as goal

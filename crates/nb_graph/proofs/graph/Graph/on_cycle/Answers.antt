@@ -1,6 +1,6 @@
-use Rattle.std.proofs.Common.{◌≡◌, ◌∙◌, sym, ap, List, ℕ, Bool, map, subst}
+use Rattle.std.proofs.Common.{◌∙◌, ap, List, ℕ, map, subst}
 use Rattle.std.specs.Prelude.{◌==◌}
-use Rattle.nb_graph.specs.Graph.{needs_itself, IsMarks, IsGraph, IsRanks}
+use Rattle.nb_graph.specs.Graph.{IsGraph}
 use Rattle.nb_graph.proofs.Cycles.{circular_marks}
 use Rattle.nb_graph.proofs.graph.Graph.on_cycle.Goals as goal
 

@@ -1,4 +1,4 @@
-use Rattle.std.proofs.Common.{◌∙◌, ap, List, ℕ, set}
+use Rattle.std.proofs.Common.{◌∙◌, ap, List, ℕ}
 use Rattle.nb_graph.specs.Graph.{with_needs}
 use Rattle.nb_graph.proofs.Lists.{set_with_needs}
 use Rattle.nb_graph.proofs.graph.Graph.set.Goals as goal

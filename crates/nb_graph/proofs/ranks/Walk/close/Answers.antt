@@ -1,10 +1,10 @@
-use Rattle.std.proofs.Common.{ℕ, List, ◌≡◌, ◌∙◌, ◌<◌, ◌≤◌, ◌-◌, ◌+◌, ◌^◌, refl, sym, ap, get_or, length, map, take, drop, arith, subst, length-take}
+use Rattle.std.proofs.Common.{ℕ, List, ◌≡◌, ◌∙◌, ◌<◌, ◌-◌, ◌+◌, sym, ap, get_or, length, map, take, drop, arith, subst, length-take}
 use Rattle.std.specs.Prelude.{true}
 use Rattle.std.proofs.lemmas.List.{take_rest, with_items_is, get_or_read}
 use Rattle.std.specs.Vec.{with_items}
 use Rattle.nb_graph.specs.Needs.{has}
-use Rattle.nb_graph.specs.Graph.{needs_of, greatest, rank_in}
-use Rattle.nb_graph.specs.Walks.{IsStep, IsWalk, StaysReached, with_rank}
+use Rattle.nb_graph.specs.Graph.{greatest, rank_in}
+use Rattle.nb_graph.specs.Walks.{IsWalk, StaysReached}
 use Rattle.nb_graph.proofs.Turns.{last_low, rank_fits, group_inside}
 use Rattle.nb_graph.proofs.Ends.{close_walks, close_stays}
 use Rattle.nb_graph.proofs.ranks.Walk.close.Goals as goal

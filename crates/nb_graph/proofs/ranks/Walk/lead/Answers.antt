@@ -1,4 +1,4 @@
-use Rattle.std.proofs.Common.{ℕ, List, ◌≡◌, ◌∙◌, ◌-◌, ◌+◌, ◌<◌, ◌≤◌, refl, sym, ap, get_or, length, inr, arith}
+use Rattle.std.proofs.Common.{ℕ, List, ◌≡◌, ◌-◌, ◌+◌, ◌<◌, refl, get_or, length, inr, arith}
 use Rattle.std.proofs.lemmas.List.{get_or_read}
 use Rattle.nb_graph.proofs.Turns.{last_low, all_reach, joined, joined_led}
 use Rattle.nb_graph.proofs.ranks.Walk.lead.Goals as goal

@@ -1,8 +1,7 @@
-use Rattle.std.proofs.Common.{ℕ, List, ◌≡◌, ◌∙◌, ◌<◌, ◌≤◌, ◌-◌, sym, ap, get_or, length, take, arith, length-take}
+use Rattle.std.proofs.Common.{ℕ, List, ◌≡◌, ◌∙◌, ◌-◌, sym, ap, length, take, arith, length-take}
 use Rattle.std.proofs.lemmas.List.{get_or_read}
-use Rattle.nb_graph.specs.Graph.{needs_of}
 use Rattle.nb_graph.proofs.Rising.{read_last}
-use Rattle.nb_graph.proofs.Turns.{IsTurn, turn, turn_low, left_walks}
+use Rattle.nb_graph.proofs.Turns.{turn, turn_low, left_walks}
 use Rattle.nb_graph.proofs.ranks.Walk.step.Goals as goal
 
 pub index-v-requires : goal.index-v-requires
