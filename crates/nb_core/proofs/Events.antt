@@ -133,6 +133,7 @@ module _ (sheet : Sheet) (one : sheet.modules ≡ 1) (starts : List (Option Star
 
     module _ (low : editor < 8) (admitted : IsAdmitted (standing self) editor event) (place : ℕ) (at : place ≡ length log + 1) (ss : List (Option Start)) (e : ss ≡ starts) where
       pub grown_state : HasLogOf (edited_sheet sheet edit place) (ss ++ None ∷ []) place
+      unfolding adds_cell
       grown_state =
           subst (λ (x : EditValue). HasLogOf (edited_sheet sheet x place) (ss ++ None ∷ []) place) (sym adds_cell.1)
           (told_added_state sheet.builtins sheet.rows starts log core self same editor low event form.0 form.1 form admitted place at ss e)
@@ -141,6 +142,7 @@ module _ (sheet : Sheet) (one : sheet.modules ≡ 1) (starts : List (Option Star
           → ((l : List Entry) → place ≡ length l → IsStateOf (edited_sheet sheet edit place) (ss ++ None ∷ []) l → IsClosedOf (edited_sheet sheet edit place) starts' l es)
           → sheet' ≡ edited_sheet sheet edit place → ((x : EditValue) → event ≡ EditEvent x → entry ≡ Edit editor x) → log' ≡ (log ++ entry ∷ []) ++ es
           → (IsCore sheet'.builtins sheet'.rows starts' log' × (sheet'.modules ≡ 1)) × Gains self (admit (standing self) editor event) (history sheet'.builtins log')
+      unfolding adds_cell
       told_grown clear sheet' starts' log' es entry closes grown entries logs =
           let few : length sheet.rows < 1024 = few_rows sheet.builtins sheet.rows form.0 (ap (λ (s : Sheet). refusal s (AddCell 0 form.0 true)) (sym (one_sheet sheet one)) ∙ (ap (refusal sheet) (sym adds_cell.1) ∙ clear)) in
           let now = edited_sheet sheet (AddCell 0 form.0 true) place in

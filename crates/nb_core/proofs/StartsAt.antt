@@ -1,8 +1,8 @@
 -- The starts, and the first that may begin.
-use Rattle.std.proofs.Common.{inl, inr, ℕ, zero, suc, ◌≡◌, ◌+◌, ◌-◌, ◌<◌, ◌≤◌, refl, sym, ◌∙◌, ap, Bool, true, false, not, List, ◌∷◌, length, get_or, arith, Option, Some, None}
+use Rattle.std.proofs.Common.{inl, inr, ℕ, zero, suc, ◌≡◌, ◌+◌, ◌-◌, ◌<◌, ◌≤◌, refl, sym, ◌∙◌, ap, Bool, true, false, not, ◌||◌, List, ◌∷◌, length, get_or, arith, Option, Some, None}
 use Rattle.std.specs.Prelude.{IsTrue, ◌↔◌}
-use Rattle.std.proofs.lemmas.Bool.{cases_Bool, false≢true, false_from_ne_true}
-use Rattle.std.specs.List.{range_with_len}
+use Rattle.std.proofs.lemmas.Bool.{cases_Bool, false≢true, false_from_ne_true, or_left, or_right}
+use Rattle.std.specs.List.{range_with_len, list_any}
 use Rattle.std.proofs.Common.{add-one}
 use Rattle.std.proofs.lemmas.Option.{none-some}
 use Rattle.nb_history.specs.Lists.{first_where}
@@ -78,3 +78,34 @@ pub next_missed : (test : ℕ → Bool) (k : ℕ) (b : Bool) → first_where tes
 next_missed test k b h e t =
     let c : 1 + k ≡ k + 1 = omega arith in
     ap (λ (m : ℕ). first_where test (range_with_len 1 m)) (add-one k) ∙ first_miss test 1 k h (ap test c ∙ (sym e ∙ t))
+
+-- ---- whether any number passes
+
+any_hit : (test : ℕ → Bool) (a k n : ℕ) → test (a + k) ≡ true → k < n → list_any test (range_with_len a n) ≡ true
+any_hit test a k zero t l = absurd (omega (arith, l))
+any_hit test a zero (suc n) t l = let e : a + 0 ≡ a = omega arith in or_left (test a) (list_any test (range_with_len (a + 1) n)) (rw e at t)
+any_hit test a (suc k) (suc n) t l =
+    let e : a + 1 + k ≡ a + suc k = omega arith in
+    or_right (test a) (list_any test (range_with_len (a + 1) n)) (any_hit test (a + 1) k n (ap test e ∙ t) (omega (arith, l)))
+
+or_false_parts : (a b : Bool) → (a || b) ≡ false → (a ≡ false) × (b ≡ false)
+or_false_parts true b h = absurd (false≢true (sym h))
+or_false_parts false b h = (refl, h)
+
+any_none : (test : ℕ → Bool) (a k : ℕ) → list_any test (range_with_len a k) ≡ false → test (a + k) ≡ false → list_any test (range_with_len a (suc k)) ≡ false
+any_none test a zero h t = let e : a + 0 ≡ a = omega arith in let here : test a ≡ false = rw e at t in rw here refl
+any_none test a (suc k) h t =
+    let e : a + 1 + k ≡ a + suc k = omega arith in
+    let p : (test a ≡ false) × (list_any test (range_with_len (a + 1) k) ≡ false) = or_false_parts (test a) (list_any test (range_with_len (a + 1) k)) h in
+    let p0 : test a ≡ false = p.0 in
+    rw p0 (any_none test (a + 1) k p.1 (ap test e ∙ t))
+
+pub any_found : (test : ℕ → Bool) (k n : ℕ) (b : Bool) → b ≡ test (k + 1) → b ≡ true → k < n → true ≡ list_any test (range_with_len 1 n)
+any_found test k n b e t l =
+    let c : 1 + k ≡ k + 1 = omega arith in
+    sym (any_hit test 1 k n (ap test c ∙ (sym e ∙ t)) l)
+
+pub any_missed : (test : ℕ → Bool) (k : ℕ) (b : Bool) → list_any test (range_with_len 1 k) ≡ false → b ≡ test (k + 1) → b ≡ false → list_any test (range_with_len 1 (k + 1)) ≡ false
+any_missed test k b h e t =
+    let c : 1 + k ≡ k + 1 = omega arith in
+    ap (λ (m : ℕ). list_any test (range_with_len 1 m)) (add-one k) ∙ any_none test 1 k h (ap test c ∙ (sym e ∙ t))

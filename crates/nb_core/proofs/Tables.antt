@@ -1,8 +1,8 @@
 -- Tables of what each variable's names tie it to, the graph of who needs whom, and marks of it.
-use Rattle.std.proofs.Common.{inl, inr, ℕ, zero, suc, ◌≡◌, ◌+◌, ◌-◌, ◌<◌, ◌≤◌, refl, sym, ◌∙◌, ap, subst, Bool, true, false, ◌&&◌, List, [], ◌∷◌, ◌++◌, map, length, length-append, length-map, take, length-take, get_or, replicate, arith, Option, Some, None}
+use Rattle.std.proofs.Common.{inl, inr, ℕ, zero, suc, ◌≡◌, ◌+◌, ◌-◌, ◌<◌, ◌≤◌, refl, sym, ◌∙◌, ap, subst, Bool, true, false, ◌&&◌, List, [], ◌∷◌, ◌++◌, map, length, length-append, take, length-take, get_or, replicate, arith, Option, Some, None}
 use Rattle.std.specs.Prelude.{slice_get}
 use Rattle.std.specs.List.{filter_map, list_any, range_with_len}
-use Rattle.std.proofs.lemmas.List.{take_more}
+use Rattle.std.proofs.lemmas.List.{length-map, take_more}
 use Rattle.std.proofs.lemmas.List.FromFn.{length-range_with_len, length-map-range_with_len, get_or-map-range_with_len, map-range_with_len_more}
 use Rattle.std.proofs.lemmas.Option.{same_Some, none-some, slice_get-get_or}
 use Rattle.std.proofs.lemmas.Bool.{cases_lt, cases_Bool, false≢true, and_parts, false_from_ne_true}
@@ -77,7 +77,9 @@ abbrev pub graph_so_far : List (List (Name × Resolution)) → ℕ → List (Lis
 graph_so_far all k = [] ∷ map (filter_map variable_of) (take k all) ++ replicate (length all - k) []
 
 pub graph_begins : (all : List (List (Name × Resolution))) (n : ℕ) → n ≡ length all + 1 → replicate n [] ≡ graph_so_far all 0
-graph_begins all n e = ap (λ (m : ℕ). replicate m []) (e ∙ omega arith)
+graph_begins all n e =
+    let one : length all + 1 ≡ suc (length all) = omega arith in
+    ap (λ (m : ℕ). replicate m []) (e ∙ one)
 
 set_at_end : (xs ys : List (List ℕ)) (old new : List ℕ) → with_needs (xs ++ old ∷ ys) (length xs) new ≡ xs ++ new ∷ ys
 set_at_end [] ys old new = refl
@@ -112,7 +114,9 @@ graph_goes_on all i is inside at =
 
 slice_inputs : (s : Sheet) (i : ℕ) → or_nothing (slice_get (map (filter_map variable_of) (all_inputs s)) i) ≡ direct s (suc i)
 slice_inputs s i = elim (cases_lt i (length s.rows)) [
-  | inl inside ↦ ap or_nothing (slice_direct 1 (length s.rows) i inside)
+  | inl inside ↦
+      let e : 1 + i ≡ suc i = omega arith in
+      ap or_nothing (slice_direct 1 (length s.rows) i inside) ∙ ap (direct s) e
   | inr outside ↦
       ap or_nothing (slice_outside (map (filter_map variable_of) (all_inputs s)) i (omega (arith, length-map (filter_map variable_of) (all_inputs s), length-map-range_with_len (inputs s) 1 (length s.rows), outside)))
       ∙ sym (ap (λ (o : Option VarRow). filter_map variable_of (from_option [] (inputs_of_row s) o)) (slice_outside s.rows i outside))

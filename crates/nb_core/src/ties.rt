@@ -82,7 +82,8 @@ fn codes(alloc: Global, inputs: &[Input]) -> Result<Vec<u64>, AllocError>
 
 /// The inputs of each variable, by number.
 fn inputs_of_all(alloc: Global, sheet: &Sheet) -> Result<Vec<Items<Input>>, AllocError>
-    ensures { IfOk result (λ all. all.items ≡ all_inputs sheet.now) }
+    ensures inputs { IfOk result (λ all. all.items ≡ all_inputs sheet.now) }
+    ensures few { IfOk result (λ all. length all.items ≤ 1024) }
 {
     let rows = sheet.rows();
     let mut all = Vec::new(alloc);
