@@ -1,15 +1,12 @@
 -- The loops over a group that is closed: its nodes are done, and its rank is found.
-use Rattle.std.proofs.Common.{ℕ, zero, suc, ◌+◌, ◌≡◌, ◌<◌, ◌≤◌, ◌≢◌, refl, sym, ◌∙◌, ap, Bool, inl, inr, List, [], ◌∷◌, ◌++◌, length, get_or, take, set, map, max, arith, subst, length-set, get_or-set_same, get_or-set_other}
+use Rattle.std.proofs.Common.{ℕ, zero, suc, ◌+◌, ◌≡◌, ◌<◌, ◌≤◌, ◌≢◌, sym, ◌∙◌, ap, Bool, inl, inr, List, [], ◌∷◌, ◌++◌, length, get_or, take, set, map, max, arith, subst, length-set, get_or-set_same, get_or-set_other}
 use Rattle.std.specs.Prelude.{◌==◌, cond}
-use Rattle.std.proofs.lemmas.Bool.{false≢true, cases_Bool, cases_eq, eq-eqb, eqb-true}
+use Rattle.std.proofs.lemmas.Bool.{cases_Bool, cases_eq, eq-eqb, eqb-true}
 use Rattle.std.proofs.lemmas.List.{take_more, map-append}
 use Rattle.nb_graph.specs.Needs.{has}
 use Rattle.nb_graph.specs.Graph.{rank_in, greatest}
 use Rattle.nb_graph.specs.Walks.{IsFinished, count_done}
 use Rattle.nb_graph.proofs.Lists.{has_front, has_end, has_push, rank_at}
-
-pub finished_none : (places : List ℕ) → IsFinished [] places places
-finished_none places = record { all = refl; each = λ u h. absurd (false≢true h); others = λ u h. refl }
 
 pub finished_more : (nodes : List ℕ) (i : ℕ) (old new new' : List ℕ) → IsFinished (take i nodes) old new → i < length nodes → get_or nodes i 0 < length new
     → new' ≡ set new (get_or nodes i 0) 1 → IsFinished (take (i + 1) nodes) old new'

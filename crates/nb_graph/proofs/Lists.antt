@@ -1,10 +1,9 @@
 -- Lists of numbers: what is in them, at which index, and how a graph changes by a `set`.
 use Rattle.std.proofs.Common.{ℕ, zero, suc, ◌+◌, ◌-◌, ◌≡◌, ◌<◌, ◌≤◌, refl, sym, ◌∙◌, ap, true, ◌⊎◌, inl, inr, List, [], ◌∷◌, ◌++◌, length, get_or, set, take, map, arith}
-use Rattle.std.specs.Prelude.{replicate}
 use Rattle.std.proofs.lemmas.Bool.{false≢true, cases_lt}
 use Rattle.std.proofs.lemmas.List.{take_more, take_all}
 use Rattle.nb_graph.specs.Needs.{has}
-use Rattle.nb_graph.specs.Graph.{needs_of, with_needs, rank_in, greatest}
+use Rattle.nb_graph.specs.Graph.{with_needs, rank_in, greatest}
 use Rattle.nb_graph.proofs.Reaches.{has_head, has_tail, has_cases}
 
 -- ---- what is in a list with one more at the end
@@ -59,31 +58,10 @@ top (y ∷ z ∷ xs) x h =
 
 -- ---- graphs
 
-pub needs_at : (graph : List (List ℕ)) (v : ℕ) (ns : List ℕ) → v < length graph → ns ≡ get_or graph v ns → ns ≡ needs_of graph v
-needs_at [] v ns h e = absurd (omega (arith, h))
-needs_at (old ∷ graph) zero ns h e = e
-needs_at (old ∷ graph) (suc v) ns h e = needs_at graph v ns (omega (arith, h)) e
-
 pub set_with_needs : (graph : List (List ℕ)) (v : ℕ) (ns : List ℕ) → set graph v ns ≡ with_needs graph v ns
 set_with_needs [] v ns = refl
 set_with_needs (old ∷ graph) zero ns = refl
 set_with_needs (old ∷ graph) (suc v) ns = ap (λ (g : List (List ℕ)). old ∷ g) (set_with_needs graph v ns)
-
--- after a change, a need is one of the new ones or an old one
-pub set_cases : (graph : List (List ℕ)) (v : ℕ) (ns : List ℕ) (w u : ℕ) → has (needs_of (set graph v ns) w) u ≡ true → (has ns u ≡ true) ⊎ (has (needs_of graph w) u ≡ true)
-set_cases [] v ns w u h = inr h
-set_cases (old ∷ graph) zero ns zero u h = inl h
-set_cases (old ∷ graph) zero ns (suc w) u h = inr h
-set_cases (old ∷ graph) (suc v) ns zero u h = inr h
-set_cases (old ∷ graph) (suc v) ns (suc w) u h = set_cases graph v ns w u h
-
-nothing_needed : (n w : ℕ) → needs_of (replicate n []) w ≡ []
-nothing_needed zero w = refl
-nothing_needed (suc n) zero = refl
-nothing_needed (suc n) (suc w) = nothing_needed n w
-
-pub none_needed : (graph : List (List ℕ)) (n w u : ℕ) → graph ≡ replicate n [] → has (needs_of graph w) u ≡ true → ⊥
-none_needed graph n w u e h = false≢true (sym (ap (λ (g : List (List ℕ)). has (needs_of g w) u) e ∙ ap (λ (ns : List ℕ). has ns u) (nothing_needed n w)) ∙ h)
 
 -- ---- ranks
 

@@ -1,8 +1,7 @@
 -- Marks of what is reached.
-use Rattle.std.proofs.Common.{ℕ, zero, suc, ◌+◌, ◌≡◌, ◌<◌, refl, sym, ◌∙◌, ap, subst, Bool, true, false, ◌⊎◌, inl, inr, List, [], ◌∷◌, ◌++◌, length, get_or, set, take, arith, length-set, get_or-set_same, get_or-set_other}
-use Rattle.std.specs.Prelude.{replicate}
+use Rattle.std.proofs.Common.{ℕ, zero, suc, ◌+◌, ◌≡◌, ◌<◌, sym, ◌∙◌, ap, subst, Bool, true, false, ◌⊎◌, inl, inr, List, [], ◌∷◌, ◌++◌, length, get_or, set, take, arith, length-set, get_or-set_same, get_or-set_other}
 use Rattle.std.proofs.lemmas.Bool.{false≢true, cases_eq, cases_lt}
-use Rattle.std.proofs.lemmas.List.{take_more, length_push, get_or_past, length-replicate}
+use Rattle.std.proofs.lemmas.List.{take_more, length_push, get_or_past}
 use Rattle.std.proofs.lemmas.Option.{slice_get-get_or, get_or_from_slice_get}
 use Rattle.std.specs.Prelude.{Some}
 use Rattle.nb_graph.specs.Needs.{has, Needs, at_once, through}
@@ -28,10 +27,6 @@ mark_stays marks u x h k =
       | inl e ↦ ap (λ (y : ℕ). get_or (set marks u true) y false) e ∙ get_or-set_same marks u true false h
       | inr ne ↦ get_or-set_other marks u x true false ne ∙ k
     ]
-
-pub marked_none : (marks : List Bool) (stack : List ℕ) → IsMarked [] marks stack marks stack
-marked_none marks stack =
-    record { all = refl; each = λ u h. absurd (false≢true h); only = λ u h. inl h; keeps = λ u h. h; stack_keeps = λ u h. h; stack_only = λ u h. inl h; once = refl }
 
 module _ (nodes : List ℕ) (old : List Bool) (old_stack : List ℕ) (new : List Bool) (new_stack : List ℕ) (u : ℕ) (m : IsMarked nodes old old_stack new new_stack) where
   pub marked_before : get_or new u false ≡ true → IsMarked (nodes ++ u ∷ []) old old_stack new new_stack
@@ -99,23 +94,6 @@ pub record IsReaching (graph : List (List ℕ)) (roots : List ℕ) (marks : List
 reached_next : (graph : List (List ℕ)) (roots : List ℕ) (v u : ℕ) → IsReached graph roots v → has (needs_of graph v) u ≡ true → IsReached graph roots u
 reached_next graph roots v u r h =
     elim r [ inl root ↦ inr (v, root, at_once h) | inr t ↦ inr (t.0, t.1, through t.2 h) ]
-
-unmarked_none : (n u : ℕ) → get_or (replicate n false) u false ≡ true → ⊥
-unmarked_none zero u h = false≢true h
-unmarked_none (suc n) zero h = false≢true h
-unmarked_none (suc n) (suc u) h = unmarked_none n u h
-
-pub reaching_begun : (graph : List (List ℕ)) (roots : List ℕ) (old : List Bool) (marks : List Bool) (none stack : List ℕ)
-    → old ≡ replicate (length graph) false → none ≡ [] → IsMarked roots old none marks stack → IsReaching graph roots marks stack
-reaching_begun graph roots old marks none stack o e m =
-    let was : (u : ℕ) → get_or old u false ≡ true → ⊥ = λ u h. unmarked_none (length graph) u (sym (ap (λ (l : List Bool). get_or l u false) o) ∙ h) in
-    record {
-      all = m.all ∙ ap (λ (l : List Bool). length l) o ∙ length-replicate (length graph) false;
-      sound = λ u h. elim (m.only u h) [ inl before ↦ absurd (was u before) | inr t ↦ inl t.0 ];
-      begun = m.each;
-      waits = λ u h. elim (m.stack_only u h) [ inl before ↦ absurd (false≢true (sym (ap (λ (l : List ℕ). has l u) e) ∙ before)) | inr k ↦ k ];
-      followed = λ v h. elim (m.only v h) [ inl before ↦ absurd (was v before) | inr t ↦ inl t.1 ];
-    }
 
 pub reaching_more : (graph : List (List ℕ)) (roots : List ℕ) (old marks : List Bool) (before rest stack ns : List ℕ) (v : ℕ)
     → IsReaching graph roots old before → before ≡ rest ++ v ∷ [] → ns ≡ needs_of graph v → IsMarked ns old rest marks stack → IsReaching graph roots marks stack

@@ -81,9 +81,6 @@ pub record IsNarrowing (old : List ℕ) (i : ℕ) (now : List ℕ) : Type 0 wher
   pub only : (c : ℕ) → has now c ≡ true → has old c ≡ true
   pub keeps : (c : ℕ) → has old c ≡ true → c ≤ i → has now c ≡ true
 
-pub narrowing_begun : (old : List ℕ) (i : ℕ) → Rises old → IsNarrowing old i old
-narrowing_begun old i r = record { rises = r; only = λ c h. h; keeps = λ c h l. h }
-
 pub narrowing_more : (old : List ℕ) (i : ℕ) (now rest : List ℕ) (n x : ℕ) → IsNarrowing old i now → n ≡ length now → 0 < n → x ≡ get_or now (n - 1) x → i < x
     → rest ≡ take (n - 1) now → IsNarrowing old i rest
 narrowing_more old i now rest n x s len some at above e =

@@ -1,6 +1,5 @@
 -- Marks of nodes, and the stack of those whose needs are not followed yet.
-use Rattle.std.specs.Prelude.{ℕ, ◌+◌, ◌≡◌, Bool, true, false, List, [], ◌∷◌, length, ◌⊎◌}
-use Rattle.std.proofs.Common.{get_or}
+use Rattle.std.specs.Prelude.{ℕ, get_or, ◌+◌, ◌≡◌, Bool, true, false, List, [], ◌∷◌, length, ◌⊎◌}
 use Rattle.nb_graph.specs.Needs.{has}
 
 -- how many have no mark

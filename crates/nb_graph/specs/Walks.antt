@@ -3,12 +3,12 @@
 -- begins, and `work` the indexes of the nodes with needs that are still to be followed. The place of a node is 0 where it
 -- isn't reached yet, 1 where it is done, and i + 2 where it stands on the path at i. `explored` says of each node how
 -- many of its direct needs have been followed.
-use Rattle.std.specs.Prelude.{ℕ, ◌+◌, ◌-◌, ◌*◌, ◌≡◌, ◌==◌, ◌<◌, ◌≤◌, ◌&&◌, true, not, cond, List, [], ◌∷◌, length, map, ◌⊎◌}
-use Rattle.std.proofs.Common.{get_or, take, set, Bool}
+use Rattle.std.specs.Prelude.{ℕ, Bool, get_or, take, set, ◌+◌, ◌-◌, ◌*◌, ◌≡◌, ◌==◌, ◌<◌, ◌≤◌, ◌&&◌, true, not, cond, List, [], ◌∷◌, length, map, ◌⊎◌}
 use Rattle.nb_graph.specs.Needs.{has, Needs}
 use Rattle.nb_graph.specs.Graph.{needs_of, rank_in, greatest}
 use Rattle.nb_graph.specs.declared.ranks.Walk.{Walk}
 
+-- x is y or needs it
 abbrev pub Reaches : (ℕ → List ℕ) → ℕ → ℕ → Type 0
 Reaches direct x y = (x ≡ y) ⊎ Needs direct x y
 
@@ -17,13 +17,14 @@ abbrev pub Rises : List ℕ → Type 0
 Rises [] = Unit {0}
 Rises (x ∷ xs) = ((y : ℕ) → has xs y ≡ true → x < y) × Rises xs
 
--- the nodes of the path, where they stand, and whom they reach
+-- the nodes of the path stand where their places say. Each reaches those after it, and the first of its group
 pub record IsPath (direct : ℕ → List ℕ) (path bounds places : List ℕ) : Type 0 where
   pub at : (p : ℕ) → p < length path → get_or places (get_or path p 0) 0 ≡ p + 2
   pub back : (v i : ℕ) → get_or places v 0 ≡ i + 2 → (i < length path) × (get_or path i 0 ≡ v)
   pub ahead : (p q : ℕ) → p ≤ q → q < length path → Reaches direct (get_or path p 0) (get_or path q 0)
   pub around : (p b : ℕ) → p < length path → has bounds b ≡ true → b ≤ p → ((c : ℕ) → has bounds c ≡ true → c ≤ p → c ≤ b) → Reaches direct (get_or path p 0) (get_or path b 0)
 
+-- each group begins at a node with needs that are still to be followed
 pub record IsWork (path bounds work : List ℕ) : Type 0 where
   pub rises : Rises work
   pub bounds_rise : Rises bounds
@@ -35,6 +36,7 @@ pub record IsWork (path bounds work : List ℕ) : Type 0 where
 abbrev pub IsLed : List ℕ → List ℕ → List ℕ → ℕ → ℕ → Type 0
 IsLed path bounds places p w = (get_or places w 0 ≡ 1) ⊎ ((q : ℕ) × (q < length path) × (get_or path q 0 ≡ w) × ((c : ℕ) → has bounds c ≡ true → c ≤ p → c ≤ q))
 
+-- what was followed leads to known nodes; of a node that is not in work all was followed, and of a new one nothing
 pub record IsExplored (direct : ℕ → List ℕ) (path bounds work places explored : List ℕ) : Type 0 where
   pub led : (p w : ℕ) → p < length path → has (take (get_or explored (get_or path p 0) 0) (direct (get_or path p 0))) w ≡ true → IsLed path bounds places p w
   pub through : (p : ℕ) → p < length path → (has work p ≡ true → ⊥) → length (direct (get_or path p 0)) ≤ get_or explored (get_or path p 0) 0
@@ -53,6 +55,7 @@ pub record IsRanked (direct : ℕ → List ℕ) (places ranks : List ℕ) : Type
   pub none : (v : ℕ) → (get_or places v 0 ≡ 1 → ⊥) → rank_in ranks v ≡ 0
   pub small : (v : ℕ) → rank_in ranks v ≤ count_done places
 
+-- what holds at each moment of the walk
 pub record IsWalk (graph : List (List ℕ)) (path bounds work places explored ranks : List ℕ) : Type 0 where
   pub place_each : length places ≡ length graph
   pub explored_each : length explored ≡ length graph

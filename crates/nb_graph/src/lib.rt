@@ -4,5 +4,7 @@
 mod graph;
 mod ranks;
 mod reach;
+#[cfg(test)]
+mod tests;
 
 pub use graph::Graph;

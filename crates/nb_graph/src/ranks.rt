@@ -15,14 +15,20 @@ const DONE: usize = 1;
 /// The place of the first node of the path.
 const FIRST: usize = 2;
 
-/// A walk that ranks nodes. The path has the nodes that are reached and not done, in groups of nodes that need each other.
+/// A walk that ranks nodes. It follows each need once, enters each node once and drops it once.
 #[derive(Drop)]
 struct Walk {
+    /// The nodes that are reached and not done, as they were reached, in groups of nodes that need each other.
     path: Vec<u32>,
+    /// Where on the path each group begins.
     bounds: Vec<usize>,
+    /// Where on the path the nodes stand that have needs to follow.
     work: Vec<usize>,
+    /// Of each node, whether it is new or done or where it stands on the path.
     places: Vec<usize>,
+    /// Of each node, how many of its needs were followed.
     explored: Vec<usize>,
+    /// The ranks of the nodes that are done.
     ranks: Vec<u32>,
 }
 
@@ -33,7 +39,7 @@ fn contains(xs: &[u32], x: u32) -> bool
     xs.iter().any(|y| *y == x)
 }
 
-/// Drops the bounds above `i`.
+/// Drops the bounds above `i`, in time linear in how many are dropped.
 fn narrow(bounds: &mut Vec<usize>, i: usize)
     requires { Rises bounds.old.items }
     ensures { IsNarrowed bounds.old.items i bounds.new.items }
@@ -226,7 +232,7 @@ impl Walk {
     }
 }
 
-/// The rank of each node.
+/// The rank of each node, in one pass over nodes and needs.
 pub fn ranked(graph: &Graph) -> Result<Vec<u32>, AllocError>
     ensures { IfOk result (λ ranks. IsRanks graph.now ranks.items) }
 {

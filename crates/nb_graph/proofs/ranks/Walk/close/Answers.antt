@@ -5,9 +5,42 @@ use Rattle.std.specs.Vec.{with_items}
 use Rattle.nb_graph.specs.Needs.{has}
 use Rattle.nb_graph.specs.Graph.{greatest, rank_in}
 use Rattle.nb_graph.specs.Walks.{IsWalk, StaysReached}
-use Rattle.nb_graph.proofs.Turns.{last_low, rank_fits, group_inside}
+use Rattle.nb_graph.proofs.Turns.{last_low, last_node, rank_fits, group_inside}
 use Rattle.nb_graph.proofs.Ends.{close_walks, close_stays}
 use Rattle.nb_graph.proofs.ranks.Walk.close.Goals as goal
+
+pub needs-requires : goal.needs-requires
+needs-requires c =
+    let s = c.args.self.now in
+    let low : c.args.j < length s.path.items =
+    last_low c.args.graph.now s.path.items s.bounds.items s.work.items s.places.items s.explored.items s.ranks.items c.requires.walks c.args.j c.requires.some c.requires.last in
+    omega (
+      arith,
+      get_or_read s.path.items c.args.j c.index-v.result.now low c.index-v.ensures 0,
+      last_node c.args.graph.now s.path.items s.bounds.items s.work.items s.places.items s.explored.items s.ranks.items c.requires.walks c.args.j c.requires.some c.requires.last,
+    )
+
+pub set_rank-requires-clause-node : goal.set_rank-requires-clause-node
+set_rank-requires-clause-node c =
+    let s = c.args.self.now in
+    let low : c.args.j < length s.path.items =
+    last_low c.args.graph.now s.path.items s.bounds.items s.work.items s.places.items s.explored.items s.ranks.items c.requires.walks c.args.j c.requires.some c.requires.last in
+    omega (
+      arith,
+      get_or_read s.path.items c.args.j c.index-v.result.now low c.index-v.ensures 0,
+      c.deref_mut.ensures.len,
+      c.requires.walks.rank_each,
+      last_node c.args.graph.now s.path.items s.bounds.items s.work.items s.places.items s.explored.items s.ranks.items c.requires.walks c.args.j c.requires.some c.requires.last,
+    )
+
+pub slice_bounds-finish-count : goal.slice_bounds-finish-count
+slice_bounds-finish-count c =
+    let s = c.args.self.now in
+    omega (
+      arith,
+      c.deref.ensures.len,
+      last_low c.args.graph.now s.path.items s.bounds.items s.work.items s.places.items s.explored.items s.ranks.items c.requires.walks c.args.j c.requires.some c.requires.last,
+    )
 
 pub set_rank-requires-clause-fits : goal.set_rank-requires-clause-fits
 set_rank-requires-clause-fits c =
