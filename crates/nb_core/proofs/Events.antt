@@ -13,7 +13,7 @@ use Rattle.nb_log.specs.declared.event.Event.TheVariants.{Edit as EditEvent}
 use Rattle.nb_log.specs.declared.entry.Refusal.{Refusal}
 use Rattle.nb_log.specs.declared.entry.Refusal.TheVariants.{LogFull}
 use Rattle.nb_log.specs.Refused.{refusal_of}
-use Rattle.nb_sheet.specs.Sheet.{Sheet, refusal, edited_sheet}
+use Rattle.nb_sheet.specs.Sheet.{Sheet, refusal, edited_sheet, all_but_last, without_last}
 use Rattle.nb_sheet.specs.declared.refused.Refused.{Refused as SheetRefused}
 use Rattle.nb_log.specs.declared.entry.Entry.{Entry}
 use Rattle.nb_log.specs.declared.entry.Entry.TheVariants.{Edit, Refused}
@@ -115,11 +115,24 @@ module _ (builtins : List (Field Value)) (rows : List VarRow) (starts : List (Op
 
 -- ---- over the sheet that the core keeps
 
+but_last : (rows : List VarRow) (row : VarRow) → all_but_last (rows ++ row ∷ []) ≡ rows
+but_last [] row = refl
+but_last (x ∷ []) row = refl
+but_last (x ∷ y ∷ rows) row = ap (λ (l : List VarRow). x ∷ l) (but_last (y ∷ rows) row)
+
+-- without the variable that an edit added, a sheet is what it was
+pub retracted : (s : Sheet) (edit : EditValue) (place : ℕ) → IsAdding edit → without_last (edited_sheet s edit place) ≡ s
+retracted s edit place adds =
+    ap (λ (e : EditValue). without_last (edited_sheet s e place)) adds.1 ∙ (λ j. record { builtins = s.builtins; modules = s.modules; rows = but_last s.rows (row_of adds.0 place) j })
+
 module _ (sheet : Sheet) (one : sheet.modules ≡ 1) (starts : List (Option Start)) (log : List Entry) (core : IsCore sheet.builtins sheet.rows starts log) (self : History) (same : history sheet.builtins log ≡ self) where
   pub sheet_here : sheet ≡ (standing self).sheet
   sheet_here = one_sheet sheet one ∙ sym (ap (λ (r : Reading). r.sheet) core.state.stands) ∙ ap (λ (h : History). (standing h).sheet) same
 
   module _ (editor : ℕ) (event : Event) (edit : EditValue) (form : IsAddedCell event) (is : event ≡ EditEvent edit) where
+    pub told_clear : refusal sheet edit ≡ None → (other : EditValue) → event ≡ EditEvent other → refusal (standing self).sheet other ≡ None
+    told_clear clear other there = ap (refusal (standing self).sheet) (edit_same other edit (sym there ∙ is)) ∙ (ap (λ (s : Sheet). refusal s edit) (sym sheet_here) ∙ clear)
+
     pub adds_cell : IsAdding edit
     adds_cell = (form.0, edit_same edit (AddCell 0 form.0 true) (sym is ∙ form.1))
 

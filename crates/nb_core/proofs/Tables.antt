@@ -6,6 +6,8 @@ use Rattle.std.proofs.lemmas.List.{length-map, take_more}
 use Rattle.std.proofs.lemmas.List.FromFn.{length-range_with_len, length-map-range_with_len, get_or-map-range_with_len, map-range_with_len_more}
 use Rattle.std.proofs.lemmas.Option.{same_Some, none-some, slice_get-get_or}
 use Rattle.std.proofs.lemmas.Bool.{cases_lt, cases_Bool, false≢true, and_parts, false_from_ne_true}
+use Rattle.nb_value.specs.declared.value.Value.{Value}
+use Rattle.nb_value.specs.declared.pairs.Field.{Field}
 use Rattle.nb_graph.specs.Needs.{has, Needs, at_once, through}
 use Rattle.nb_graph.specs.Graph.{or_nothing, needs_of, with_needs, needs_itself, IsReached, IsMarks}
 use Rattle.nb_graph.proofs.Reaches.{has_any, any_has, needed_sound, needed_complete, needed_within, Needs_trans}
@@ -22,6 +24,9 @@ use Rattle.nb_core.specs.State.{Ties, ties_of, all_ties, sheet_of, all_inputs, g
 -- a sheet of one module is told by its builtins and rows
 pub one_sheet : (s : Sheet) → s.modules ≡ 1 → s ≡ sheet_of s.builtins s.rows
 one_sheet s one j = record { builtins = s.builtins; modules = one j; rows = s.rows }
+
+pub read_sheet : (s : Sheet) (builtins : List (Field Value)) (rows : List VarRow) → s.modules ≡ 1 → builtins ≡ s.builtins → rows ≡ s.rows → s ≡ sheet_of builtins rows
+read_sheet s builtins rows one b r = one_sheet s one ∙ (λ j. sheet_of (sym b j) (sym r j))
 
 -- ---- tables of all variables
 
@@ -79,7 +84,8 @@ graph_so_far all k = [] ∷ map (filter_map variable_of) (take k all) ++ replica
 pub graph_begins : (all : List (List (Name × Resolution))) (n : ℕ) → n ≡ length all + 1 → replicate n [] ≡ graph_so_far all 0
 graph_begins all n e =
     let one : length all + 1 ≡ suc (length all) = omega arith in
-    ap (λ (m : ℕ). replicate m []) (e ∙ one)
+    let all_left : length all ≡ length all - 0 = omega arith in
+    ap (λ (m : ℕ). replicate m []) (e ∙ one) ∙ ap (λ (m : ℕ). [] ∷ replicate m []) all_left
 
 set_at_end : (xs ys : List (List ℕ)) (old new : List ℕ) → with_needs (xs ++ old ∷ ys) (length xs) new ≡ xs ++ new ∷ ys
 set_at_end [] ys old new = refl
@@ -100,7 +106,7 @@ graph_goes_on all i is inside at =
     let xs : List (List ℕ) = [] ∷ map f (take i all) in
     let rest : List (List ℕ) = replicate (length all - (i + 1)) [] in
     let one : length all - i ≡ suc (length all - (i + 1)) = omega (arith, inside) in
-    let len : i + 1 ≡ length xs = omega (arith, length-map f (take i all), length-take {xs = all} {n = i}, inside) in
+    let len : i + 1 ≡ length xs = omega (arith, length-map (take i all) f, length-take {xs = all} {n = i}, inside) in
     let found : f (get_or all i is) ≡ f is = ap f (sym at) in
     ap (λ (m : ℕ). with_needs (xs ++ replicate m []) (i + 1) (f is)) one
     ∙ ap (λ (m : ℕ). with_needs (xs ++ [] ∷ rest) m (f is)) len
@@ -118,7 +124,7 @@ slice_inputs s i = elim (cases_lt i (length s.rows)) [
       let e : 1 + i ≡ suc i = omega arith in
       ap or_nothing (slice_direct 1 (length s.rows) i inside) ∙ ap (direct s) e
   | inr outside ↦
-      ap or_nothing (slice_outside (map (filter_map variable_of) (all_inputs s)) i (omega (arith, length-map (filter_map variable_of) (all_inputs s), length-map-range_with_len (inputs s) 1 (length s.rows), outside)))
+      ap or_nothing (slice_outside (map (filter_map variable_of) (all_inputs s)) i (omega (arith, length-map (all_inputs s) (filter_map variable_of), length-map-range_with_len (inputs s) 1 (length s.rows), outside)))
       ∙ sym (ap (λ (o : Option VarRow). filter_map variable_of (from_option [] (inputs_of_row s) o)) (slice_outside s.rows i outside))
 ]
   where
@@ -137,7 +143,7 @@ same_needs : (s : Sheet) → needs_of (graph_of s) ≡ direct s
 same_needs s = λ j w. needs_here s w j
 
 pub length_graph : (s : Sheet) → length (graph_of s) ≡ suc (length s.rows)
-length_graph s = ap suc (length-map (filter_map variable_of) (all_inputs s) ∙ length-map-range_with_len (inputs s) 1 (length s.rows))
+length_graph s = ap suc (length-map (all_inputs s) (filter_map variable_of) ∙ length-map-range_with_len (inputs s) 1 (length s.rows))
 
 -- what v's direct needs reach is what v needs
 reached_needed : (s : Sheet) (v u : ℕ) → IsReached (graph_of s) (direct s v) u → has (needed s v) u ≡ true

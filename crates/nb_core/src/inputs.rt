@@ -1,17 +1,17 @@
 ghost use Rattle.std.specs.Prelude.{◌≡◌, ◌≤◌, ◌<◌, [], ◌∷◌, Some, length, IfOk};
 ghost use Rattle.std.specs.Option.{option_copied};
 ghost use Rattle.nb_sheet.specs.Lists.{from_option, or_else};
-ghost use Rattle.nb_resolve.specs.Names.{duplicate};
+ghost use Rattle.nb_resolve.specs.Names.{duplicate, inputs as inputs_of};
 ghost use Rattle.nb_history.specs.Needs.{circular};
 ghost use Rattle.nb_history.specs.Rules.{plain_error, through_input, first_error as first_error_of, value_given, first_value, answers_of, pulls_of};
 ghost use Rattle.nb_core.specs.Core.{work_of};
 ghost use Rattle.nb_core.specs.Given.{given_in, error_in, first_error_in, values_in, builtin_value as builtin_value_of, marked_by, first_work};
-ghost use Rattle.nb_core.specs.State.{at, shown_in};
+ghost use Rattle.nb_core.specs.State.{at, sheet_of, shown_in};
 
 use crate::starts::Started;
 use nb_eval::{Segment, Work};
 use nb_resolve::{Input, Resolution, inputs};
-use nb_sheet::{BodyOf, Sheet};
+use nb_sheet::{BodyOf, Sheet, VarRow};
 use nb_value::{CellError, ErrorKind, Items, Outcome, Pairs, Text, Tree, Value};
 use std::alloc::{AllocError, Global};
 
@@ -245,6 +245,38 @@ fn body_work(alloc: Global, body: &Option<BodyOf>, values: Pairs<Value>) -> Resu
     }
 }
 
+/// What is to be done for a ready variable of these inputs.
+fn row_work(
+    alloc: Global,
+    builtins: &Pairs<Value>,
+    rows: &[VarRow],
+    starts: &[Option<Started>],
+    found: &[Input],
+    v: u32,
+    is_duplicate: bool,
+    is_circular: bool,
+) -> Result<Work, AllocError>
+    requires number { (0 < v) × (v ≤ length rows.now) }
+    requires inputs { found.now ≡ inputs_of (sheet_of builtins.now rows.now) v }
+    requires duplicate { is_duplicate ≡ duplicate (sheet_of builtins.now rows.now) v }
+    requires circular { is_circular ≡ circular (sheet_of builtins.now rows.now) v }
+    requires answers { answers_of (at builtins.now rows.now starts.now) v ≡ [] }
+    requires pulls { pulls_of (at builtins.now rows.now starts.now) v ≡ 1 }
+    ensures { IfOk result (λ work. work ≡ work_of (at builtins.now rows.now starts.now) v) }
+{
+    let row = &rows[v as usize - 1];
+    let marked = marked_error(alloc, &row.name, is_duplicate, is_circular)?;
+    let error = deciding(alloc, builtins, starts, marked, found)?;
+    match error {
+        Some(error) => Ok(Work::Direct(Outcome::Error(error))),
+        None => {
+            let pairs = values(alloc, builtins, starts, found)?;
+            let work = body_work(alloc, &row.body, pairs)?;
+            Ok(work)
+        }
+    }
+}
+
 /// What is to be done for a ready variable at its first pull. The marks are those of its start.
 pub fn work(
     alloc: Global,
@@ -256,23 +288,24 @@ pub fn work(
 ) -> Result<Work, AllocError>
     requires one_module { sheet.now.modules ≡ 1 }
     requires number { (0 < v) × (v ≤ length sheet.now.rows) }
-    requires duplicate { is_duplicate ≡ duplicate sheet.now v }
-    requires circular { is_circular ≡ circular sheet.now v }
+    requires duplicate { is_duplicate ≡ duplicate (sheet_of sheet.now.builtins sheet.now.rows) v }
+    requires circular { is_circular ≡ circular (sheet_of sheet.now.builtins sheet.now.rows) v }
     requires answers { answers_of (at sheet.now.builtins sheet.now.rows starts.now) v ≡ [] }
     requires pulls { pulls_of (at sheet.now.builtins sheet.now.rows starts.now) v ≡ 1 }
     ensures { IfOk result (λ work. work ≡ work_of (at sheet.now.builtins sheet.now.rows starts.now) v) }
 {
-    let builtins = sheet.builtins();
-    let row = &sheet.rows()[v as usize - 1];
     let found = inputs(alloc, sheet, v)?;
-    let marked = marked_error(alloc, &row.name, is_duplicate, is_circular)?;
-    let error = deciding(alloc, builtins, starts, marked, &found)?;
-    match error {
-        Some(error) => Ok(Work::Direct(Outcome::Error(error))),
-        None => {
-            let pairs = values(alloc, builtins, starts, &found)?;
-            let work = body_work(alloc, &row.body, pairs)?;
-            Ok(work)
-        }
-    }
+    let builtins = sheet.builtins();
+    let rows = sheet.rows();
+    let work = row_work(
+        alloc,
+        builtins,
+        rows,
+        starts,
+        &found,
+        v,
+        is_duplicate,
+        is_circular,
+    )?;
+    Ok(work)
 }

@@ -1,6 +1,8 @@
 ghost use Rattle.std.specs.Prelude.{◌≡◌, ◌≤◌, ◌<◌, ◌+◌, [], true, length, IfOk, IfErr, OnOk, OnErr, IsTrue, ◌↔◌};
 ghost use Rattle.std.specs.Option.{option_copied};
 ghost use Rattle.nb_eval.specs.Work.{IsOf};
+ghost use Rattle.nb_sheet.specs.Sheet.{refusal};
+ghost use Rattle.nb_sheet.specs.declared.edit.Edit.{Edit as EditValue};
 ghost use Rattle.nb_history.specs.Reading.{shown as shown_in_log};
 ghost use Rattle.nb_history.specs.History.{standing, IsClosedHistory};
 ghost use Rattle.nb_history.specs.Log.{admit, Rests};
@@ -114,6 +116,7 @@ impl Core {
         requires low { editor < 8 }
         requires form { IsAddedCell event }
         requires room { length self.old.log ≤ 4000000 }
+        requires clear { (edit : EditValue) → event ≡ Event.Edit edit → refusal (standing self.old).sheet edit ≡ None }
         requires admitted { IsAdmitted (standing self.old) editor event }
         ensures ok { IfOk result (λ place. (place ≡ length self.old.log + 1) × Gains self.old (admit (standing self.old) editor event) self.new) }
         ensures err { IfErr result (λ refused. (refused.0 ≡ event) × (self.new ≡ self.old)) }

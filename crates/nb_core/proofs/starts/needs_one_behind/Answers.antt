@@ -1,4 +1,4 @@
-use Rattle.std.proofs.Common.{◌≡◌, ◌<◌, ◌≤◌, ◌&&◌, ◌∙◌, ap, subst, suc, true, length, arith, List, Bool, ℕ}
+use Rattle.std.proofs.Common.{◌≡◌, ◌<◌, ◌≤◌, ◌+◌, ◌&&◌, ◌∙◌, ap, subst, suc, true, length, arith, List, Bool, ℕ}
 use Rattle.std.specs.List.{list_any}
 use Rattle.nb_graph.specs.Needs.{has}
 use Rattle.nb_graph.specs.Graph.{IsReached, IsMarks}

@@ -1,5 +1,5 @@
-use Rattle.std.proofs.Common.{◌∙◌, ◌≡◌, ap, map, length, List}
-use Rattle.std.specs.List.{range_with_len}
+use Rattle.std.proofs.Common.{◌∙◌, ◌≡◌, ◌≤◌, ap, length, List, arith}
+use Rattle.std.proofs.lemmas.List.FromFn.{length-map-range_with_len}
 use Rattle.nb_sheet.specs.Lists.{Name}
 use Rattle.nb_sheet.specs.declared.row.VarRow.{VarRow}
 use Rattle.nb_resolve.specs.declared.resolution.Resolution.{Resolution}
@@ -11,3 +11,9 @@ pub loop-i-preserved : goal.loop-i-preserved
 loop-i-preserved c =
     ◌∙◌ {A = List (List (Name × Resolution))} c.in_ok-push.ensures.items
     (table_push (inputs c.args.sheet.now) c.loop-i.i c.loop-i.all.items c.from_vec.result c.loop-i.invariant (c.from_vec.ensures ∙ c.in_ok-found.ensures))
+
+pub returns-clause-few : goal.returns-clause-few
+returns-clause-few c =
+    let same : length c.loop-i.all.items ≡ c.loop-i.i = ap (λ (l : List (List (Name × Resolution))). length l) c.loop-i.invariant ∙ length-map-range_with_len (inputs c.args.sheet.now) 1 c.loop-i.i in
+    let many : length c.rows-rows.result.now ≡ length c.args.sheet.now.rows = ap (λ (l : List VarRow). length l) c.rows-rows.ensures.value in
+    omega (arith, same, many, c.rows-rows.ensures.kept.variables)

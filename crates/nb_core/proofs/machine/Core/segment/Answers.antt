@@ -9,5 +9,4 @@ returns c =
     told_work c.self.inside.sheet.builtins c.self.inside.sheet.rows c.self.inside.starts.items c.self.inside.log.entries c.self.invariant.0 c.args.self.now c.self.view_is
     c.args.var c.requires c.in_ok-work.work
     (c.in_ok-work.ensures
-    ∙ ap (λ rows. work_of (at c.self.inside.sheet.builtins rows c.deref-3.result.now) c.args.var) c.deref-2.ensures.value
-    ∙ ap (λ starts. work_of (at c.self.inside.sheet.builtins c.self.inside.sheet.rows starts) c.args.var) c.deref-3.ensures.value)
+    ∙ ap (λ starts. work_of (at c.self.inside.sheet.builtins c.self.inside.sheet.rows starts) c.args.var) c.deref-2.ensures.value)
