@@ -130,28 +130,43 @@ fn shown(sheet: &Sheet, variable: u32) -> (&str, (&str, u32), u64) {
 }
 
 #[test]
-fn edits_change_a_variable(rt: HostRuntime) -> Result<(), Fail> {
+fn cells_define_variables(rt: HostRuntime) -> Result<(), Fail> {
     let alloc = rt.alloc();
     let mut sheet = Sheet::new(alloc, Pairs::new(alloc))?;
     assert_eq!(rt; take(&mut sheet, Edit::AddModule, 1)?, 0);
-    assert_eq!(rt; add_cell(alloc, &mut sheet, 0, "x", 2)?, 0);
+    let done = [
+        add_cell(alloc, &mut sheet, 0, "x", 2)?,
+        add_variable(&mut sheet, 1)?,
+    ];
+    assert_eq!(rt; done, [0, 0]);
     assert_eq!(rt; shown(&sheet, 1), ("x", ("cell", 0), 2));
-    assert_eq!(rt; add_variable(&mut sheet, 1)?, 0);
     assert_eq!(rt; shown(&sheet, 2), ("", ("", 0), 0));
-    assert_eq!(rt; define(alloc, &mut sheet, 2, "x", 5)?, 0);
-    assert_eq!(rt; shown(&sheet, 2), ("x", ("cell", 0), 5));
-    assert_eq!(rt; redefine(alloc, &mut sheet, 0, "x", 6)?, 0);
+    let done = [
+        define(alloc, &mut sheet, 2, "x", 5)?,
+        redefine(alloc, &mut sheet, 0, "x", 6)?,
+    ];
+    assert_eq!(rt; done, [0, 0]);
     assert_eq!(rt; shown(&sheet, 1), ("x", ("cell", 0), 6));
     assert_eq!(rt; shown(&sheet, 2), ("x", ("cell", 0), 5));
-    assert_eq!(rt; import(alloc, &mut sheet, 2, 0)?, 0);
-    assert_eq!(rt; shown(&sheet, 2), ("alias", ("name", 0), 7));
-    assert_eq!(rt; take(&mut sheet, Edit::Delete { variable: 2 }, 8)?, 0);
-    assert_eq!(rt; shown(&sheet, 2), ("", ("", 0), 0));
-    assert_eq!(rt; shown(&sheet, 3), ("no variable", ("", 0), 0));
+    Ok(())
+}
+
+#[test]
+fn imports_and_deletes(rt: HostRuntime) -> Result<(), Fail> {
+    let alloc = rt.alloc();
+    let mut sheet = Sheet::new(alloc, Pairs::new(alloc))?;
+    let done = [
+        add_cell(alloc, &mut sheet, 0, "x", 1)?,
+        import(alloc, &mut sheet, 1, 0)?,
+    ];
+    assert_eq!(rt; done, [0, 0]);
+    assert_eq!(rt; shown(&sheet, 1), ("alias", ("name", 0), 7));
+    assert_eq!(rt; take(&mut sheet, Edit::Delete { variable: 1 }, 8)?, 0);
+    assert_eq!(rt; shown(&sheet, 1), ("", ("", 0), 0));
     if !sheet.rows().is_empty() {
         sheet.retract();
     }
-    assert_eq!(rt; shown(&sheet, 2), ("no variable", ("", 0), 0));
+    assert_eq!(rt; shown(&sheet, 1), ("no variable", ("", 0), 0));
     Ok(())
 }
 
@@ -159,19 +174,22 @@ fn edits_change_a_variable(rt: HostRuntime) -> Result<(), Fail> {
 fn reasons_come_in_their_order(rt: HostRuntime) -> Result<(), Fail> {
     let alloc = rt.alloc();
     let mut sheet = Sheet::new(alloc, Pairs::new(alloc))?;
-    assert_eq!(rt; add_cell(alloc, &mut sheet, 0, "x", 1)?, 0);
-    assert_eq!(rt; add_cell(alloc, &mut sheet, 1, "x", 2)?, 1);
-    assert_eq!(rt; add_variable(&mut sheet, 1)?, 1);
-    assert_eq!(rt; define(alloc, &mut sheet, 0, "x", 3)?, 2);
-    assert_eq!(rt; define(alloc, &mut sheet, 2, "x", 3)?, 2);
-    assert_eq!(rt; import(alloc, &mut sheet, 2, 1)?, 1);
-    assert_eq!(rt; import(alloc, &mut sheet, 2, 0)?, 2);
-    assert_eq!(rt; take(&mut sheet, Edit::Delete { variable: 2 }, 3)?, 2);
-    assert_eq!(rt; redefine(alloc, &mut sheet, 1, "y", 3)?, 1);
-    assert_eq!(rt; redefine(alloc, &mut sheet, 0, "y", 3)?, 5);
-    assert_eq!(rt; unnamed(&mut sheet)?, 5);
-    assert_eq!(rt; add_cell(alloc, &mut sheet, 0, "x", 3)?, 0);
-    assert_eq!(rt; redefine(alloc, &mut sheet, 0, "x", 4)?, 6);
+    let reasons = [
+        add_cell(alloc, &mut sheet, 0, "x", 1)?,
+        add_cell(alloc, &mut sheet, 1, "x", 2)?,
+        add_variable(&mut sheet, 1)?,
+        define(alloc, &mut sheet, 0, "x", 3)?,
+        define(alloc, &mut sheet, 2, "x", 3)?,
+        import(alloc, &mut sheet, 2, 1)?,
+        import(alloc, &mut sheet, 2, 0)?,
+        take(&mut sheet, Edit::Delete { variable: 2 }, 3)?,
+        redefine(alloc, &mut sheet, 1, "y", 3)?,
+        redefine(alloc, &mut sheet, 0, "y", 3)?,
+        unnamed(&mut sheet)?,
+        add_cell(alloc, &mut sheet, 0, "x", 3)?,
+        redefine(alloc, &mut sheet, 0, "x", 4)?,
+    ];
+    assert_eq!(rt; reasons, [0, 1, 1, 2, 2, 1, 2, 2, 1, 5, 5, 0, 6]);
     assert_eq!(rt; shown(&sheet, 1), ("x", ("cell", 0), 1));
     Ok(())
 }
