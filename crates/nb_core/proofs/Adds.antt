@@ -1,6 +1,6 @@
 -- The event of an added observed cell: when it is refused, and what it leaves.
-use Rattle.std.proofs.Common.{inl, inr, ℕ, zero, suc, ◌≡◌, ◌+◌, ◌-◌, ◌<◌, ◌≤◌, refl, sym, ◌∙◌, ap, subst, Bool, true, false, cond, ◌⊎◌, ltb, leb, List, [], ◌∷◌, ◌++◌, length, length-append, replicate, arith, Option, Some, None}
-use Rattle.std.proofs.lemmas.Bool.{le-ltb, lt-ltb, lt-leb, le-leb}
+use Rattle.std.proofs.Common.{inl, inr, ℕ, zero, suc, ◌≡◌, ◌+◌, ◌-◌, ◌<◌, ◌≤◌, refl, sym, ◌∙◌, ap, subst, Bool, true, false, cond, ◌⊎◌, ltb, leb, List, [], ◌∷◌, ◌++◌, length, length-append, replicate, arith, Option, Some, None, option_map}
+use Rattle.std.proofs.lemmas.Bool.{cases_lt, le-ltb, lt-ltb, le-leb}
 use Rattle.std.proofs.lemmas.Option.{none-some}
 use Rattle.nb_value.specs.declared.value.Value.{Value}
 use Rattle.nb_value.specs.declared.pairs.Field.{Field}
@@ -12,12 +12,16 @@ use Rattle.nb_sheet.specs.declared.edit.Edit.TheVariants.{AddCell}
 use Rattle.nb_log.specs.declared.event.Event.{Event}
 use Rattle.nb_log.specs.declared.event.Event.TheVariants.{Edit as EditEvent}
 use Rattle.nb_log.specs.declared.entry.Refusal.{Refusal}
-use Rattle.nb_log.specs.declared.entry.Refusal.TheVariants.{LogFull, TooManyVariables}
+use Rattle.nb_log.specs.declared.entry.Refusal.TheVariants.{LogFull}
+use Rattle.nb_log.specs.Refused.{refusal_of}
+use Rattle.nb_sheet.specs.Sheet.{refusal, where_true}
+use Rattle.nb_sheet.specs.declared.refused.Refused.{Refused as SheetRefused}
+use Rattle.nb_sheet.specs.declared.refused.Refused.TheVariants.{TooManyVariables}
 use Rattle.nb_log.specs.declared.entry.Entry.{Entry}
 use Rattle.nb_log.specs.declared.entry.Entry.TheVariants.{Edit, Refused}
-use Rattle.nb_sheet.specs.Lists.{nth}
+use Rattle.nb_sheet.specs.Lists.{nth, from_option, or_else}
 use Rattle.nb_history.specs.Reading.{Reading, Start}
-use Rattle.nb_history.specs.Log.{after, reading, nothing_yet, Fits, LegalFrom, IsQuiet, admit}
+use Rattle.nb_history.specs.Log.{after, reading, nothing_yet, Fits, LegalFrom, IsQuiet, admit, when}
 use Rattle.nb_history.specs.Serial.{closing}
 use Rattle.nb_history.proofs.Histories.{legal_append}
 use Rattle.nb_core.specs.State.{sheet_of, reading_of, is_cell, row_of, IsPlain, IsBare, IsState, IsLocal, IsQuietLog}
@@ -38,11 +42,27 @@ module _ (builtins : List (Field Value)) (rows : List VarRow) (starts : List (Op
   pub admit_full : 4000000 < Reading.size (reading builtins log) → admit (reading builtins log) editor (adding cell) ≡ Refused editor LogFull (adding cell)
   admit_full full = by_state (Refused editor LogFull (adding cell)) (rw (lt-ltb 4000000 (Reading.size (reading builtins log)) full) refl)
 
-  pub admit_many : Reading.size (reading builtins log) ≤ 4000000 → 1024 ≤ length rows → admit (reading builtins log) editor (adding cell) ≡ Refused editor TooManyVariables (adding cell)
-  admit_many room many = by_state (Refused editor TooManyVariables (adding cell)) (rw (le-ltb 4000000 (Reading.size (reading builtins log)) room, le-leb 1024 (length rows) many) refl)
+  -- a reason against the edit is the reason against the event
+  pub admit_refused : (reason : SheetRefused) → Reading.size (reading builtins log) ≤ 4000000 → refusal (sheet_of builtins rows) (AddCell 0 cell true) ≡ Some reason
+      → admit (reading builtins log) editor (adding cell) ≡ Refused editor (refusal_of reason) (adding cell)
+  admit_refused reason room against =
+      by_state (Refused editor (refusal_of reason) (adding cell))
+      (ap (λ (b : Bool). from_option (Edit editor (AddCell 0 cell true)) (λ x. Refused editor x (adding cell)) (or_else (when b LogFull) (option_map refusal_of (refusal (sheet_of builtins rows) (AddCell 0 cell true))))) (le-ltb 4000000 (Reading.size (reading builtins log)) room)
+      ∙ ap (λ (o : Option SheetRefused). from_option (Edit editor (AddCell 0 cell true)) (λ x. Refused editor x (adding cell)) (option_map refusal_of o)) against)
 
-  pub admit_edit : Reading.size (reading builtins log) ≤ 4000000 → length rows < 1024 → admit (reading builtins log) editor (adding cell) ≡ Edit editor (AddCell 0 cell true)
-  admit_edit room few = by_state (Edit editor (AddCell 0 cell true)) (rw (le-ltb 4000000 (Reading.size (reading builtins log)) room, lt-leb 1024 (length rows) few) refl)
+  pub admit_edit : Reading.size (reading builtins log) ≤ 4000000 → refusal (sheet_of builtins rows) (AddCell 0 cell true) ≡ None → admit (reading builtins log) editor (adding cell) ≡ Edit editor (AddCell 0 cell true)
+  admit_edit room clear =
+      by_state (Edit editor (AddCell 0 cell true))
+      (ap (λ (b : Bool). from_option (Edit editor (AddCell 0 cell true)) (λ x. Refused editor x (adding cell)) (or_else (when b LogFull) (option_map refusal_of (refusal (sheet_of builtins rows) (AddCell 0 cell true))))) (le-ltb 4000000 (Reading.size (reading builtins log)) room)
+      ∙ ap (λ (o : Option SheetRefused). from_option (Edit editor (AddCell 0 cell true)) (λ x. Refused editor x (adding cell)) (option_map refusal_of o)) clear)
+
+-- a sheet that takes one more variable has fewer than 1,024
+pub few_rows : (builtins : List (Field Value)) (rows : List VarRow) (cell : Cell) → refusal (sheet_of builtins rows) (AddCell 0 cell true) ≡ None → length rows < 1024
+few_rows builtins rows cell clear =
+    elim (cases_lt (length rows) 1024) [
+      | inl few ↦ few
+      | inr many ↦ absurd (none-some TooManyVariables (sym clear ∙ ap (λ (b : Bool). where_true b TooManyVariables) (le-leb 1024 (length rows) many)))
+    ]
 
 -- ---- a refused event changes nothing else
 

@@ -10,6 +10,7 @@ use Rattle.nb_sheet.specs.declared.row.VarRow.{VarRow}
 use Rattle.nb_log.specs.declared.entry.Entry.{Entry}
 use Rattle.nb_log.specs.declared.entry.Entry.TheVariants.{Pending}
 use Rattle.nb_graph.specs.Needs.{has}
+use Rattle.nb_sheet.specs.Sheet.{Sheet}
 use Rattle.nb_sheet.specs.Lists.{nth, numbers, from_option, option_then}
 use Rattle.nb_history.specs.Lists.{first_where}
 use Rattle.nb_history.specs.Needs.{circular, needed, is_defined, is_observed, is_root, needs}
@@ -146,6 +147,9 @@ pub record IsClosingOf (builtins : List (Field Value)) (rows : List VarRow) (sta
 -- some such log
 abbrev pub HasLog : List (Field Value) → List VarRow → List (Option Start) → ℕ → Type 0
 HasLog builtins rows starts n = (log : List Entry) × (n ≡ length log) × IsState builtins rows starts log
+
+abbrev pub HasLogOf : Sheet → List (Option Start) → ℕ → Type 0
+HasLogOf sheet starts n = HasLog sheet.builtins sheet.rows starts n
 
 pub loop_begins : (builtins : List (Field Value)) (rows : List VarRow) (starts : List (Option Start)) (n : ℕ) → HasLog builtins rows starts n → IsClosingOf builtins rows starts starts n []
 loop_begins builtins rows starts n some =

@@ -11,18 +11,22 @@ use Rattle.nb_sheet.specs.declared.edit.Edit.TheVariants.{AddCell}
 use Rattle.nb_log.specs.declared.event.Event.{Event}
 use Rattle.nb_log.specs.declared.event.Event.TheVariants.{Edit as EditEvent}
 use Rattle.nb_log.specs.declared.entry.Refusal.{Refusal}
-use Rattle.nb_log.specs.declared.entry.Refusal.TheVariants.{LogFull, TooManyVariables}
+use Rattle.nb_log.specs.declared.entry.Refusal.TheVariants.{LogFull}
+use Rattle.nb_log.specs.Refused.{refusal_of}
+use Rattle.nb_sheet.specs.Sheet.{Sheet, refusal, edited_sheet}
+use Rattle.nb_sheet.specs.declared.refused.Refused.{Refused as SheetRefused}
 use Rattle.nb_log.specs.declared.entry.Entry.{Entry}
 use Rattle.nb_log.specs.declared.entry.Entry.TheVariants.{Edit, Refused}
-use Rattle.nb_history.specs.Reading.{Start}
+use Rattle.nb_history.specs.Reading.{Reading, Start}
 use Rattle.nb_history.specs.Log.{reading, admit}
 use Rattle.nb_history.specs.History.{History, standing}
-use Rattle.nb_core.specs.State.{row_of, IsState, IsCore, IsClosed}
-use Rattle.nb_core.specs.Core.{Gains, IsAddedCell, IsAdmitted}
+use Rattle.nb_core.specs.State.{sheet_of, row_of, IsState, IsCore, IsClosed, IsStateOf, IsClosedOf}
+use Rattle.nb_core.specs.Core.{Gains, IsAddedCell, IsAdding, IsAdmitted}
 use Rattle.nb_core.proofs.States.{size_total}
-use Rattle.nb_core.proofs.Adds.{adding, admit_full, admit_many, admit_edit, state_added}
-use Rattle.nb_core.proofs.Closings.{HasLog}
-use Rattle.nb_core.proofs.Cores.{history, same_rows, refused, added}
+use Rattle.nb_core.proofs.Adds.{adding, admit_full, admit_refused, admit_edit, few_rows, state_added}
+use Rattle.nb_core.proofs.Closings.{HasLog, HasLogOf}
+use Rattle.nb_core.proofs.Cores.{history, refused, added}
+use Rattle.nb_core.proofs.Tables.{one_sheet}
 
 -- ---- events
 
@@ -52,16 +56,22 @@ module _ (builtins : List (Field Value)) (rows : List VarRow) (starts : List (Op
       subst (λ (e : Event). admit (standing self) editor e ≡ Refused editor LogFull e) (sym form.1)
       (event_here (adding form.0) ∙ admit_full builtins rows starts log core.state editor form.0 (omega (arith, full, size_total builtins log)))
 
-  pub told_many : (event : Event) → IsAddedCell event → total_size log ≤ 4000000 → 1024 ≤ length rows → admit (standing self) editor event ≡ Refused editor TooManyVariables event
-  told_many event form room many =
-      subst (λ (e : Event). admit (standing self) editor e ≡ Refused editor TooManyVariables e) (sym form.1)
-      (event_here (adding form.0) ∙ admit_many builtins rows starts log core.state editor form.0 (omega (arith, room, size_total builtins log)) many)
+  edit_is : (event : Event) (edit : EditValue) (form : IsAddedCell event) → event ≡ EditEvent edit → edit ≡ AddCell 0 form.0 true
+  edit_is event edit form is = edit_same edit (AddCell 0 form.0 true) (sym is ∙ form.1)
 
-  pub told_edit : (event : Event) → IsAddedCell event → total_size log ≤ 4000000 → length rows < 1024 → IsAdmitted (standing self) editor event
-  told_edit event form room few = (
+  pub told_against : (event : Event) (edit : EditValue) (reason : SheetRefused) → IsAddedCell event → event ≡ EditEvent edit → total_size log ≤ 4000000 → refusal (sheet_of builtins rows) edit ≡ Some reason
+      → admit (standing self) editor event ≡ Refused editor (refusal_of reason) event
+  told_against event edit reason form is room against =
+      subst (λ (e : Event). admit (standing self) editor e ≡ Refused editor (refusal_of reason) e) (sym form.1)
+      (event_here (adding form.0)
+      ∙ admit_refused builtins rows starts log core.state editor form.0 reason (omega (arith, room, size_total builtins log)) (ap (refusal (sheet_of builtins rows)) (sym (edit_is event edit form is)) ∙ against))
+
+  pub told_edit : (event : Event) (edit : EditValue) → IsAddedCell event → event ≡ EditEvent edit → total_size log ≤ 4000000 → refusal (sheet_of builtins rows) edit ≡ None → IsAdmitted (standing self) editor event
+  told_edit event edit form is room clear = (
     AddCell 0 form.0 true,
     form.1,
-    ap (admit (standing self) editor) form.1 ∙ event_here (adding form.0) ∙ admit_edit builtins rows starts log core.state editor form.0 (omega (arith, room, size_total builtins log)) few,
+    ap (admit (standing self) editor) form.1
+        ∙ (event_here (adding form.0) ∙ admit_edit builtins rows starts log core.state editor form.0 (omega (arith, room, size_total builtins log)) (ap (refusal (sheet_of builtins rows)) (sym (edit_is event edit form is)) ∙ clear)),
   )
 
   module _ (low : editor < 8) (event : Event) (cell : Cell) (is : event ≡ adding cell) (form : IsAddedCell event) (admitted : IsAdmitted (standing self) editor event) (place : ℕ) (at : place ≡ length log + 1) where
@@ -103,8 +113,40 @@ module _ (builtins : List (Field Value)) (rows : List VarRow) (starts : List (Op
         (subst (λ (l : List Entry). IsCore builtins rows' starts' l × Gains (history builtins log) (admit (reading builtins log) editor (adding cell)) (history builtins l)) (sym new_log)
         (subst (λ (rs : List VarRow). IsCore builtins rs starts' (log ++ new ∷ es) × Gains (history builtins log) (admit (reading builtins log) editor (adding cell)) (history builtins (log ++ new ∷ es))) (sym new_rows) c)))
 
-pub few_here : (builtins : List (Field Value)) (rows : List VarRow) (starts : List (Option Start)) (log : List Entry) (core : IsCore builtins rows starts log) (self : History) → history builtins log ≡ self
-    → length (standing self).sheet.rows < 1024 → length rows < 1024
-few_here builtins rows starts log core self same few =
-    let e : length rows ≡ length (standing self).sheet.rows = ap (λ (rs : List VarRow). length rs) (same_rows builtins rows starts log core ∙ ap (λ (h : History). (standing h).sheet.rows) same) in
-    omega (arith, few, e)
+-- ---- over the sheet that the core keeps
+
+module _ (sheet : Sheet) (one : sheet.modules ≡ 1) (starts : List (Option Start)) (log : List Entry) (core : IsCore sheet.builtins sheet.rows starts log) (self : History) (same : history sheet.builtins log ≡ self) where
+  pub sheet_here : sheet ≡ (standing self).sheet
+  sheet_here = one_sheet sheet one ∙ sym (ap (λ (r : Reading). r.sheet) core.state.stands) ∙ ap (λ (h : History). (standing h).sheet) same
+
+  module _ (editor : ℕ) (event : Event) (edit : EditValue) (form : IsAddedCell event) (is : event ≡ EditEvent edit) where
+    pub adds_cell : IsAdding edit
+    adds_cell = (form.0, edit_same edit (AddCell 0 form.0 true) (sym is ∙ form.1))
+
+    pub told_refusal : (reason : SheetRefused) → total_size log ≤ 4000000 → refusal sheet edit ≡ Some reason → admit (standing self) editor event ≡ Refused editor (refusal_of reason) event
+    told_refusal reason room against =
+        told_against sheet.builtins sheet.rows starts log core self same editor event edit reason form is room (ap (λ (s : Sheet). refusal s edit) (sym (one_sheet sheet one)) ∙ against)
+
+    pub told_admitted : total_size log ≤ 4000000 → refusal sheet edit ≡ None → IsAdmitted (standing self) editor event
+    told_admitted room clear =
+        told_edit sheet.builtins sheet.rows starts log core self same editor event edit form is room (ap (λ (s : Sheet). refusal s edit) (sym (one_sheet sheet one)) ∙ clear)
+
+    module _ (low : editor < 8) (admitted : IsAdmitted (standing self) editor event) (place : ℕ) (at : place ≡ length log + 1) (ss : List (Option Start)) (e : ss ≡ starts) where
+      pub grown_state : HasLogOf (edited_sheet sheet edit place) (ss ++ None ∷ []) place
+      grown_state =
+          subst (λ (x : EditValue). HasLogOf (edited_sheet sheet x place) (ss ++ None ∷ []) place) (sym adds_cell.1)
+          (told_added_state sheet.builtins sheet.rows starts log core self same editor low event form.0 form.1 form admitted place at ss e)
+
+      pub told_grown : (clear : refusal sheet edit ≡ None) (sheet' : Sheet) (starts' : List (Option Start)) (log' es : List Entry) (entry : Entry)
+          → ((l : List Entry) → place ≡ length l → IsStateOf (edited_sheet sheet edit place) (ss ++ None ∷ []) l → IsClosedOf (edited_sheet sheet edit place) starts' l es)
+          → sheet' ≡ edited_sheet sheet edit place → ((x : EditValue) → event ≡ EditEvent x → entry ≡ Edit editor x) → log' ≡ (log ++ entry ∷ []) ++ es
+          → (IsCore sheet'.builtins sheet'.rows starts' log' × (sheet'.modules ≡ 1)) × Gains self (admit (standing self) editor event) (history sheet'.builtins log')
+      told_grown clear sheet' starts' log' es entry closes grown entries logs =
+          let few : length sheet.rows < 1024 = few_rows sheet.builtins sheet.rows form.0 (ap (λ (s : Sheet). refusal s (AddCell 0 form.0 true)) (sym (one_sheet sheet one)) ∙ (ap (refusal sheet) (sym adds_cell.1) ∙ clear)) in
+          let now = edited_sheet sheet (AddCell 0 form.0 true) place in
+          let told : IsCore sheet.builtins now.rows starts' log' × Gains self (admit (standing self) editor event) (history sheet.builtins log') =
+          told_added sheet.builtins sheet.rows starts log core self same editor low event form.0 form.1 form admitted place at ss e few now.rows starts' log' es entry
+          (subst (λ (x : EditValue). (l : List Entry) → place ≡ length l → IsStateOf (edited_sheet sheet x place) (ss ++ None ∷ []) l → IsClosedOf (edited_sheet sheet x place) starts' l es) adds_cell.1 closes)
+          refl entries logs in
+          subst (λ (s : Sheet). (IsCore s.builtins s.rows starts' log' × (s.modules ≡ 1)) × Gains self (admit (standing self) editor event) (history s.builtins log'))
+          (sym (grown ∙ ap (λ (x : EditValue). edited_sheet sheet x place) adds_cell.1)) ((told.0, one), told.1)

@@ -1,163 +1,27 @@
--- Marks of numbers, rounds over a table of direct needs, and what each variable's names tie it to.
-use Rattle.std.proofs.Common.{inl, inr, ◌⊎◌, ℕ, zero, suc, ◌≡◌, ◌+◌, ◌-◌, ◌<◌, ◌≤◌, refl, sym, ◌∙◌, ap, Bool, true, false, cond, ◌||◌, eqb, List, [], ◌∷◌, ◌++◌, append-nil, map, length, take, length-take, get_or, set, replicate, add-zero, arith, Option, Some, None}
+-- Tables of what each variable's names tie it to, the graph of who needs whom, and marks of it.
+use Rattle.std.proofs.Common.{inl, inr, ℕ, zero, suc, ◌≡◌, ◌+◌, ◌-◌, ◌<◌, ◌≤◌, refl, sym, ◌∙◌, ap, subst, Bool, true, false, ◌&&◌, List, [], ◌∷◌, ◌++◌, map, length, length-append, length-map, take, length-take, get_or, replicate, arith, Option, Some, None}
 use Rattle.std.specs.Prelude.{slice_get}
-use Rattle.std.specs.List.{filter, filter_map, list_any, range_with_len}
+use Rattle.std.specs.List.{filter_map, list_any, range_with_len}
 use Rattle.std.proofs.lemmas.List.{take_more}
 use Rattle.std.proofs.lemmas.List.FromFn.{length-range_with_len, length-map-range_with_len, get_or-map-range_with_len, map-range_with_len_more}
-use Rattle.std.proofs.lemmas.Bool.{cases_lt, ne_eqb, eq-eqb}
+use Rattle.std.proofs.lemmas.Option.{same_Some, none-some, slice_get-get_or}
+use Rattle.std.proofs.lemmas.Bool.{cases_lt, cases_Bool, false≢true, and_parts, false_from_ne_true}
+use Rattle.nb_graph.specs.Needs.{has, Needs, at_once, through}
+use Rattle.nb_graph.specs.Graph.{or_nothing, needs_of, with_needs, needs_itself, IsReached, IsMarks}
+use Rattle.nb_graph.proofs.Reaches.{has_any, any_has, needed_sound, needed_complete, needed_within, Needs_trans}
 use Rattle.nb_sheet.specs.declared.row.VarRow.{VarRow}
-use Rattle.nb_resolve.specs.declared.resolution.Resolution.{Resolution}
 use Rattle.nb_sheet.specs.Lists.{Name, nth, numbers, from_option}
-use Rattle.nb_graph.specs.Needs.{has}
-use Rattle.nb_graph.specs.Needs.{grown, rounds}
 use Rattle.nb_sheet.specs.Sheet.{Sheet}
-use Rattle.nb_resolve.specs.Names.{direct, duplicate, inputs, inputs_of_row, is_duplicate_row, variable_of}
+use Rattle.nb_resolve.specs.declared.resolution.Resolution.{Resolution}
+use Rattle.nb_resolve.specs.Names.{direct, inputs, inputs_of_row, variable_of}
 use Rattle.nb_history.specs.Needs.{needed, circular}
-use Rattle.nb_history.specs.Rules.{input_code}
-use Rattle.nb_core.specs.Scan.{needs_in, reaches, marked_from, numbers_marked}
-use Rattle.nb_core.specs.State.{Ties, ties_of, all_ties}
-use Rattle.nb_core.proofs.Scans.{numbers_from_push}
+use Rattle.nb_history.proofs.Direct.{direct_within}
+use Rattle.nb_history.proofs.Closing.{range_has}
+use Rattle.nb_core.specs.State.{Ties, ties_of, all_ties, sheet_of, all_inputs, graph_by, graph_of, is_marked, IsWithin}
 
--- ---- small laws on tests
-
-or_false : (b : Bool) → (b || false) ≡ b
-or_false true = refl
-or_false false = refl
-
-or_true : (b : Bool) → (b || true) ≡ true
-or_true true = refl
-or_true false = refl
-
-or_assoc : (a b c : Bool) → ((a || b) || c) ≡ (a || (b || c))
-or_assoc true b c = refl
-or_assoc false b c = refl
-
-any_push : (p : ℕ → Bool) (xs : List ℕ) (x : ℕ) → list_any p (xs ++ x ∷ []) ≡ (list_any p xs || p x)
-any_push p [] x = or_false (p x)
-any_push p (y ∷ xs) x = ap (λ (b : Bool). p y || b) (any_push p xs x) ∙ sym (or_assoc (p y) (list_any p xs) (p x))
-
-map_agree : {A B : Type 0} (f g : A → B) → ((x : A) → f x ≡ g x) → (xs : List A) → map f xs ≡ map g xs
-map_agree f g h xs = ap (λ k. map k xs) (λ i x. h x i)
-
--- ---- marks
-
--- a number out of their range changes nothing
-pub marked_outside : (k : ℕ) (us : List ℕ) (u : ℕ) (bs : List Bool) → ((u < k) ⊎ (k + length bs ≤ u)) → marked_from k (us ++ u ∷ []) bs ≡ marked_from k us bs
-marked_outside k us u [] h = refl
-marked_outside k us u (b ∷ bs) h =
-    let other : (u ≡ k → ⊥) = λ e. elim h [ inl less ↦ omega (arith, less, e) | inr more ↦ omega (arith, more, e) ] in
-    let here : has (us ++ u ∷ []) k ≡ has us k = any_push (λ y. eqb y k) us u ∙ ap (λ (t : Bool). has us k || t) (ne_eqb u k other) ∙ or_false (has us k) in
-    let later : (u < k + 1) ⊎ (k + 1 + length bs ≤ u) = elim h [ inl less ↦ inl (omega (arith, less)) | inr more ↦ inr (omega (arith, more)) ] in
-    ap (λ (t : Bool). (b || t) ∷ marked_from (k + 1) (us ++ u ∷ []) bs) here ∙ ap (λ (l : List Bool). (b || has us k) ∷ l) (marked_outside (k + 1) us u bs later)
-
--- one within it sets its mark
-marked_inside : (k : ℕ) (us : List ℕ) (i : ℕ) (bs : List Bool) → i < length bs → marked_from k (us ++ (k + i) ∷ []) bs ≡ set (marked_from k us bs) i true
-marked_inside k us i [] h = absurd (omega (arith, h))
-marked_inside k us zero (b ∷ bs) h =
-    let e : k + 0 ≡ k = omega arith in
-    let here : has (us ++ (k + 0) ∷ []) k ≡ true = any_push (λ y. eqb y k) us (k + 0) ∙ ap (λ (t : Bool). has us k || t) (eq-eqb (k + 0) k e) ∙ or_true (has us k) in
-    ap (λ (t : Bool). (b || t) ∷ marked_from (k + 1) (us ++ (k + 0) ∷ []) bs) here
-    ∙ ap (λ (t : Bool). t ∷ marked_from (k + 1) (us ++ (k + 0) ∷ []) bs) (or_true b)
-    ∙ ap (λ (l : List Bool). true ∷ l) (marked_outside (k + 1) us (k + 0) bs (inl (omega arith)))
-marked_inside k us (suc i) (b ∷ bs) h =
-    let other : (k + suc i ≡ k → ⊥) = λ e. omega (arith, e) in
-    let here : has (us ++ (k + suc i) ∷ []) k ≡ has us k = any_push (λ y. eqb y k) us (k + suc i) ∙ ap (λ (t : Bool). has us k || t) (ne_eqb (k + suc i) k other) ∙ or_false (has us k) in
-    let e : k + suc i ≡ k + 1 + i = omega arith in
-    ap (λ (t : Bool). (b || t) ∷ marked_from (k + 1) (us ++ (k + suc i) ∷ []) bs) here
-    ∙ ap (λ (l : List Bool). (b || has us k) ∷ l) (ap (λ (m : ℕ). marked_from (k + 1) (us ++ m ∷ []) bs) e ∙ marked_inside (k + 1) us i bs (omega (arith, h)))
-
-pub length-marked_from : (k : ℕ) (us : List ℕ) (bs : List Bool) → length (marked_from k us bs) ≡ length bs
-length-marked_from k us [] = refl
-length-marked_from k us (b ∷ bs) = ap (λ (n : ℕ). suc n) (length-marked_from (k + 1) us bs)
-
--- the turns of the loop that sets marks
-pub mark_yes : (us : List ℕ) (i : ℕ) (u : ℕ) (old now : List Bool) → i < length us → u ≡ get_or us i 0 → 0 < u → u ≤ length old → now ≡ marked_from 1 (take i us) old
-    → set now (u - 1) true ≡ marked_from 1 (take (i + 1) us) old
-mark_yes us i u old now h at low high inv =
-    let e : 1 + (u - 1) ≡ u = omega (arith, low) in
-    ap (λ (l : List Bool). set l (u - 1) true) inv
-    ∙ sym (marked_inside 1 (take i us) (u - 1) old (omega (arith, low, high)))
-    ∙ ap (λ (m : ℕ). marked_from 1 (take i us ++ m ∷ []) old) (e ∙ at)
-    ∙ ap (λ (l : List ℕ). marked_from 1 l old) (sym (take_more us i 0 h))
-
-pub mark_no : (us : List ℕ) (i : ℕ) (u : ℕ) (old now : List Bool) → i < length us → u ≡ get_or us i 0 → ((u < 1) ⊎ (1 + length old ≤ u)) → now ≡ marked_from 1 (take i us) old
-    → now ≡ marked_from 1 (take (i + 1) us) old
-mark_no us i u old now h at out inv =
-    inv ∙ sym (marked_outside 1 (take i us) u old out)
-    ∙ ap (λ (m : ℕ). marked_from 1 (take i us ++ m ∷ []) old) at
-    ∙ ap (λ (l : List ℕ). marked_from 1 l old) (sym (take_more us i 0 h))
-
-pub marked_nothing : (k : ℕ) (bs : List Bool) → bs ≡ marked_from k [] bs
-marked_nothing k [] = refl
-marked_nothing k (b ∷ bs) = ap (λ (t : Bool). t ∷ bs) (sym (or_false b)) ∙ ap (λ (l : List Bool). (b || false) ∷ l) (marked_nothing (k + 1) bs)
-
--- marks by a test, and those of a list
-marked_test : (p : ℕ → Bool) (us : List ℕ) (k n : ℕ) → marked_from k us (map p (range_with_len k n)) ≡ map (λ u. p u || has us u) (range_with_len k n)
-marked_test p us k zero = refl
-marked_test p us k (suc n) = ap (λ (l : List Bool). (p k || has us k) ∷ l) (marked_test p us (k + 1) n)
-
-none_marked : (k n : ℕ) → replicate n false ≡ map (λ u. false) (range_with_len k n)
-none_marked k zero = refl
-none_marked k (suc n) = ap (λ (l : List Bool). false ∷ l) (none_marked (k + 1) n)
-
-module _ (direct : ℕ → List ℕ) (vs : List ℕ) (n : ℕ) where
-  -- the marks of what is reached by the first i of vs
-  abbrev pub reached_by : ℕ → List Bool
-  reached_by i = map (λ u. has vs u || list_any (λ w. has (direct w) u) (take i vs)) (range_with_len 1 n)
-
-  pub reached_none : (old now : List Bool) → old ≡ replicate n false → now ≡ marked_from 1 vs old → now ≡ reached_by 0
-  reached_none old now o e =
-      e ∙ ap (marked_from 1 vs) (o ∙ none_marked 1 n) ∙ marked_test (λ u. false) vs 1 n
-      ∙ map_agree (λ u. has vs u) (λ u. has vs u || list_any (λ w. has (direct w) u) (take 0 vs)) (λ u. sym (or_false (has vs u))) (range_with_len 1 n)
-
-  pub reached_more : (i w : ℕ) (old now : List Bool) → i < length vs → w ≡ get_or vs i 0 → old ≡ reached_by i → now ≡ marked_from 1 (direct w) old → now ≡ reached_by (i + 1)
-  reached_more i w old now h at inv e =
-      let more : (u : ℕ) → ((has vs u || list_any (λ w. has (direct w) u) (take i vs)) || has (direct w) u) ≡ (has vs u || list_any (λ w. has (direct w) u) (take (i + 1) vs)) =
-      λ u. or_assoc (has vs u) (list_any (λ w. has (direct w) u) (take i vs)) (has (direct w) u)
-      ∙ ap (λ (b : Bool). has vs u || b) (sym (any_push (λ w. has (direct w) u) (take i vs) w)
-      ∙ ap (λ (l : List ℕ). list_any (λ w. has (direct w) u) l) (ap (λ (m : ℕ). take i vs ++ m ∷ []) at ∙ sym (take_more vs i 0 h))) in
-      e ∙ ap (marked_from 1 (direct w)) inv ∙ marked_test (λ u. has vs u || list_any (λ w. has (direct w) u) (take i vs)) (direct w) 1 n
-      ∙ map_agree (λ u. (has vs u || list_any (λ w. has (direct w) u) (take i vs)) || has (direct w) u) (λ u. has vs u || list_any (λ w. has (direct w) u) (take (i + 1) vs)) more (range_with_len 1 n)
-
--- the marked numbers are those that pass
-numbers_of_marks : (p : ℕ → Bool) (k n : ℕ) → numbers_marked k (map p (range_with_len k n)) ≡ filter p (range_with_len k n)
-numbers_of_marks p k zero = refl
-numbers_of_marks p k (suc n) = ap (λ (l : List ℕ). cond (p k) (k ∷ l) l) (numbers_of_marks p (k + 1) n)
-
-pub grown_marked : (table : List (List ℕ)) (vs : List ℕ) (marks : List Bool) (more : List ℕ)
-    → marks ≡ map (reaches (needs_in table) vs) (range_with_len 1 (length table)) → more ≡ numbers_marked 1 marks → more ≡ grown (needs_in table) (numbers table) vs
-grown_marked table vs marks more m e = e ∙ ap (numbers_marked 1) m ∙ numbers_of_marks (reaches (needs_in table) vs) 1 (length table)
-
--- the turns of the loop that lists marked numbers
-pub list_yes : (marks : List Bool) (i : ℕ) (found : List ℕ) → i < length marks → get_or marks i false ≡ true → found ≡ numbers_marked 1 (take i marks) → found ++ (i + 1) ∷ [] ≡ numbers_marked 1 (take (i + 1) marks)
-list_yes marks i found h t inv =
-    let len : 1 + length (take i marks) ≡ i + 1 = rw length-take (omega arith) in
-    ap (λ (l : List ℕ). l ++ (i + 1) ∷ []) inv
-    ∙ ap (λ (m : ℕ). numbers_marked 1 (take i marks) ++ m ∷ []) (sym len)
-    ∙ ap (λ (c : Bool). numbers_marked 1 (take i marks) ++ cond c ((1 + length (take i marks)) ∷ []) []) (sym t)
-    ∙ sym (numbers_from_push (λ b. b) 1 (take i marks) (get_or marks i false))
-    ∙ ap (λ (l : List Bool). numbers_marked 1 l) (sym (take_more marks i false h))
-
-pub list_no : (marks : List Bool) (i : ℕ) (found : List ℕ) → i < length marks → get_or marks i false ≡ false → found ≡ numbers_marked 1 (take i marks) → found ≡ numbers_marked 1 (take (i + 1) marks)
-list_no marks i found h t inv =
-    inv ∙ sym (append-nil (numbers_marked 1 (take i marks)))
-    ∙ ap (λ (c : Bool). numbers_marked 1 (take i marks) ++ cond c ((1 + length (take i marks)) ∷ []) []) (sym t)
-    ∙ sym (numbers_from_push (λ b. b) 1 (take i marks) (get_or marks i false))
-    ∙ ap (λ (l : List Bool). numbers_marked 1 l) (sym (take_more marks i false h))
-
--- ---- rounds
-
--- what a round leaves as it is, all further rounds do
-steady : (direct : ℕ → List ℕ) (all vs first : List ℕ) (k d : ℕ) → grown direct all vs ≡ vs → rounds direct all k first ≡ vs → rounds direct all (k + d) first ≡ vs
-steady direct all vs first k zero g r = rw add-zero r
-steady direct all vs first k (suc d) g r =
-    let e : k + suc d ≡ suc (k + d) = omega arith in
-    ap (λ (m : ℕ). rounds direct all m first) e ∙ ap (grown direct all) (steady direct all vs first k d g r) ∙ g
-
-pub rounds_stop : (direct : ℕ → List ℕ) (all first vs more : List ℕ) (k n : ℕ) → k ≤ n → vs ≡ rounds direct all k first → more ≡ grown direct all vs → more ≡ vs → more ≡ rounds direct all n first
-rounds_stop direct all first vs more k n h inv m same =
-    let e : k + (n - k) ≡ n = omega (arith, h) in
-    same ∙ sym (steady direct all vs first k (n - k) (sym m ∙ same) (sym inv)) ∙ ap (λ (j : ℕ). rounds direct all j first) e
+-- a sheet of one module is told by its builtins and rows
+pub one_sheet : (s : Sheet) → s.modules ≡ 1 → s ≡ sheet_of s.builtins s.rows
+one_sheet s one j = record { builtins = s.builtins; modules = one j; rows = s.rows }
 
 -- ---- tables of all variables
 
@@ -185,59 +49,142 @@ slice_outside [] i h = refl
 slice_outside (x ∷ xs) zero h = absurd (omega (arith, h))
 slice_outside (x ∷ xs) (suc i) h = slice_outside xs i (omega (arith, h))
 
-needs_outside : (table : List (List ℕ)) (w : ℕ) → ((w < 1) ⊎ (1 + length table ≤ w)) → needs_in table w ≡ []
-needs_outside table zero h = refl
-needs_outside table (suc i) h =
-    elim h [
-      | inl low ↦ absurd (omega (arith, low))
-      | inr high ↦ ap (λ (o : Option (List ℕ)). from_option [] (λ ns. ns) o) (slice_outside table i (omega (arith, high)))
+-- ---- the inputs of each variable
+
+pub length_inputs : (s : Sheet) (all : List (List (Name × Resolution))) → all ≡ all_inputs s → length all ≡ length s.rows
+length_inputs s all e = ap (λ (l : List (List (Name × Resolution))). length l) e ∙ length-map-range_with_len (inputs s) 1 (length s.rows)
+
+-- the variables among them are variables of the sheet
+pub inputs_within : (s : Sheet) (all : List (List (Name × Resolution))) → all ≡ all_inputs s → IsWithin all
+inputs_within s all e i is at u h =
+    elim (cases_lt i (length s.rows)) [
+      | inl inside ↦
+          let same : inputs s (1 + i) ≡ is = same_Some (inputs s (1 + i)) is (sym (slice_map (inputs s) 1 (length s.rows) i inside) ∙ (ap (λ (l : List (List (Name × Resolution))). slice_get l i) (sym e) ∙ at)) in
+          let t : (1 ≤ u) × (u < 1 + length s.rows) = range_has 1 (length s.rows) u (direct_within s (1 + i) u (ap (λ (l : List (Name × Resolution)). has (filter_map variable_of l) u) same ∙ h)) in
+          omega (arith, t.1, length_inputs s all e)
+      | inr outside ↦ absurd (none-some is (sym (slice_outside all i (omega (arith, length_inputs s all e, outside))) ∙ at))
     ]
 
--- where w has no direct needs in the table, they mark nothing
-pub unmarked : (table : List (List ℕ)) (w : ℕ) (bs : List Bool) → ((w < 1) ⊎ (1 + length table ≤ w)) → bs ≡ marked_from 1 (needs_in table w) bs
-unmarked table w bs h = marked_nothing 1 bs ∙ ap (λ (l : List ℕ). marked_from 1 l bs) (sym (needs_outside table w h))
+pub inputs_at : (s : Sheet) (all : List (List (Name × Resolution))) (i : ℕ) (is : List (Name × Resolution)) → all ≡ all_inputs s → i < length all → is ≡ get_or all i is → is ≡ inputs s (i + 1)
+inputs_at s all i is e inside at =
+    at ∙ ap (λ (l : List (List (Name × Resolution))). get_or l i is) e
+    ∙ get_or-map-range_with_len (inputs s) 1 (length s.rows) i (i + 1) is (omega (arith, inside, length_inputs s all e)) (omega arith)
 
--- the direct needs in the table are those of the sheet
-module _ (s : Sheet) where
-  needs_at : (w : ℕ) → needs_in (map (direct s) (numbers s.rows)) w ≡ direct s w
-  needs_at zero = refl
-  needs_at (suc i) = elim (cases_lt i (length s.rows)) [
-    | inl inside ↦
-        let e : 1 + i ≡ suc i = omega arith in
-        ap (λ (o : Option (List ℕ)). from_option [] (λ ns. ns) o) (slice_map (direct s) 1 (length s.rows) i inside) ∙ ap (direct s) e
-    | inr outside ↦
-        ap (λ (o : Option (List ℕ)). from_option [] (λ ns. ns) o) (slice_outside (map (direct s) (numbers s.rows)) i (omega (arith, length-map-range_with_len (direct s) 1 (length s.rows), outside)))
-        ∙ sym (ap (λ (o : Option VarRow). filter_map variable_of (from_option [] (inputs_of_row s) o)) (slice_outside s.rows i outside))
-  ]
+-- ---- the graph, as it is made
 
-  needs_table : (table : List (List ℕ)) → table ≡ map (direct s) (numbers s.rows) → needs_in table ≡ direct s
-  needs_table table e = ap needs_in e ∙ (λ i w. needs_at w i)
+-- the graph where the first k have their needs
+abbrev pub graph_so_far : List (List (Name × Resolution)) → ℕ → List (List ℕ)
+graph_so_far all k = [] ∷ map (filter_map variable_of) (take k all) ++ replicate (length all - k) []
 
-  pub numbers_table : (table : List (List ℕ)) → table ≡ map (direct s) (numbers s.rows) → length table ≡ length s.rows
-  numbers_table table e = ap (λ (t : List (List ℕ)). length t) e ∙ length-map-range_with_len (direct s) 1 (length s.rows)
+pub graph_begins : (all : List (List (Name × Resolution))) (n : ℕ) → n ≡ length all + 1 → replicate n [] ≡ graph_so_far all 0
+graph_begins all n e = ap (λ (m : ℕ). replicate m []) (e ∙ omega arith)
 
-  pub needed_table : (table : List (List ℕ)) (v : ℕ) (all vars : List ℕ) → table ≡ map (direct s) (numbers s.rows) → vars ≡ direct s v
-      → all ≡ rounds (needs_in table) (numbers table) (length table) vars → all ≡ needed s v
-  needed_table table v all vars t d e =
-      let n : length table ≡ length s.rows = numbers_table table t in
-      e ∙ ap (λ (f : ℕ → List ℕ). rounds f (numbers table) (length table) vars) (needs_table table t)
-      ∙ ap (λ (m : ℕ). rounds (direct s) (range_with_len 1 m) m vars) n
-      ∙ ap (rounds (direct s) (numbers s.rows) (length s.rows)) d
-      ∙ ap (λ (m : ℕ). rounds (direct s) (numbers s.rows) m (direct s v)) (sym (length-range_with_len 1 (length s.rows)))
+set_at_end : (xs ys : List (List ℕ)) (old new : List ℕ) → with_needs (xs ++ old ∷ ys) (length xs) new ≡ xs ++ new ∷ ys
+set_at_end [] ys old new = refl
+set_at_end (x ∷ xs) ys old new = ap (λ (l : List (List ℕ)). x ∷ l) (set_at_end xs ys old new)
 
-  pub row_direct : (v : ℕ) (row : VarRow) (vars : List ℕ) → nth s.rows v ≡ Some row → vars ≡ filter_map variable_of (inputs_of_row s row) → vars ≡ direct s v
-  row_direct v row vars at e = e ∙ sym (ap (λ (o : Option VarRow). filter_map variable_of (from_option [] (inputs_of_row s) o)) at)
+map_push : {A B : Type 0} (f : A → B) (xs : List A) (x : A) → map f (xs ++ x ∷ []) ≡ map f xs ++ f x ∷ []
+map_push f [] x = refl
+map_push f (y ∷ xs) x = ap (λ l. f y ∷ l) (map_push f xs x)
 
-  -- what is found for a row
-  pub ties_made : (table : List (List ℕ)) (v : ℕ) (row : VarRow) (is_duplicate is_circular : Bool) (found : List (Name × Resolution)) (codes vars all : List ℕ)
-      → table ≡ map (direct s) (numbers s.rows) → nth s.rows v ≡ Some row → is_duplicate ≡ is_duplicate_row s row → is_circular ≡ has all v → found ≡ inputs_of_row s row
-      → codes ≡ map input_code found → vars ≡ filter_map variable_of found → all ≡ rounds (needs_in table) (numbers table) (length table) vars
-      → record { is_duplicate = is_duplicate; is_circular = is_circular; inputs = codes; direct = vars; needed = all } ≡ ties_of s v
-  ties_made table v row is_duplicate is_circular found codes vars all t at dup circ ins cs vs ns =
-      let d : is_duplicate ≡ duplicate s v = dup ∙ sym (ap (λ (o : Option VarRow). from_option false (is_duplicate_row s) o) at) in
-      let i : found ≡ inputs s v = ins ∙ sym (ap (λ (o : Option VarRow). from_option [] (inputs_of_row s) o) at) in
-      let v' : vars ≡ direct s v = vs ∙ ap (filter_map variable_of) i in
-      let n : all ≡ needed s v = needed_table table v all vars t v' ns in
-      let c : is_circular ≡ circular s v = circ ∙ ap (λ (l : List ℕ). has l v) n in
-      let k : codes ≡ map input_code (inputs s v) = cs ∙ ap (map input_code) i in
-      λ j. record { is_duplicate = d j; is_circular = c j; inputs = k j; direct = v' j; needed = n j }
+append_one : (xs ys : List (List ℕ)) (y : List ℕ) → (xs ++ y ∷ []) ++ ys ≡ xs ++ y ∷ ys
+append_one [] ys y = refl
+append_one (x ∷ xs) ys y = ap (λ (l : List (List ℕ)). x ∷ l) (append_one xs ys y)
+
+pub graph_goes_on : (all : List (List (Name × Resolution))) (i : ℕ) (is : List (Name × Resolution)) → i < length all → is ≡ get_or all i is
+    → with_needs (graph_so_far all i) (i + 1) (filter_map variable_of is) ≡ graph_so_far all (i + 1)
+graph_goes_on all i is inside at =
+    let f : List (Name × Resolution) → List ℕ = filter_map variable_of in
+    let xs : List (List ℕ) = [] ∷ map f (take i all) in
+    let rest : List (List ℕ) = replicate (length all - (i + 1)) [] in
+    let one : length all - i ≡ suc (length all - (i + 1)) = omega (arith, inside) in
+    let len : i + 1 ≡ length xs = omega (arith, length-map f (take i all), length-take {xs = all} {n = i}, inside) in
+    let found : f (get_or all i is) ≡ f is = ap f (sym at) in
+    ap (λ (m : ℕ). with_needs (xs ++ replicate m []) (i + 1) (f is)) one
+    ∙ ap (λ (m : ℕ). with_needs (xs ++ [] ∷ rest) m (f is)) len
+    ∙ set_at_end xs rest [] (f is)
+    ∙ ap (λ (ns : List ℕ). xs ++ ns ∷ rest) (sym found)
+    ∙ ap (λ (l : List (List ℕ)). [] ∷ l) (sym (append_one (map f (take i all)) rest (f (get_or all i is))))
+    ∙ ap (λ (l : List (List ℕ)). [] ∷ l ++ rest) (sym (map_push f (take i all) (get_or all i is)))
+    ∙ ap (λ (l : List (List (Name × Resolution))). [] ∷ map f l ++ rest) (sym (take_more all i is inside))
+
+-- ---- the graph against the sheet
+
+slice_inputs : (s : Sheet) (i : ℕ) → or_nothing (slice_get (map (filter_map variable_of) (all_inputs s)) i) ≡ direct s (suc i)
+slice_inputs s i = elim (cases_lt i (length s.rows)) [
+  | inl inside ↦ ap or_nothing (slice_direct 1 (length s.rows) i inside)
+  | inr outside ↦
+      ap or_nothing (slice_outside (map (filter_map variable_of) (all_inputs s)) i (omega (arith, length-map (filter_map variable_of) (all_inputs s), length-map-range_with_len (inputs s) 1 (length s.rows), outside)))
+      ∙ sym (ap (λ (o : Option VarRow). filter_map variable_of (from_option [] (inputs_of_row s) o)) (slice_outside s.rows i outside))
+]
+  where
+    slice_direct : (k n i : ℕ) → i < n → slice_get (map (filter_map variable_of) (map (inputs s) (range_with_len k n))) i ≡ Some (direct s (k + i))
+    slice_direct k zero i h = absurd (omega (arith, h))
+    slice_direct k (suc n) zero h = let e : k ≡ k + 0 = omega arith in ap (λ (m : ℕ). Some (direct s m)) e
+    slice_direct k (suc n) (suc i) h =
+        let e : k + 1 + i ≡ k + suc i = omega arith in
+        slice_direct (k + 1) n i (omega (arith, h)) ∙ ap (λ (m : ℕ). Some (direct s m)) e
+
+needs_here : (s : Sheet) (w : ℕ) → needs_of (graph_of s) w ≡ direct s w
+needs_here s zero = refl
+needs_here s (suc i) = slice_inputs s i
+
+same_needs : (s : Sheet) → needs_of (graph_of s) ≡ direct s
+same_needs s = λ j w. needs_here s w j
+
+pub length_graph : (s : Sheet) → length (graph_of s) ≡ suc (length s.rows)
+length_graph s = ap suc (length-map (filter_map variable_of) (all_inputs s) ∙ length-map-range_with_len (inputs s) 1 (length s.rows))
+
+-- what v's direct needs reach is what v needs
+reached_needed : (s : Sheet) (v u : ℕ) → IsReached (graph_of s) (direct s v) u → has (needed s v) u ≡ true
+reached_needed s v u (inl h) = needed_complete (direct s) (numbers s.rows) (direct_within s) (at_once h)
+reached_needed s v u (inr t) =
+    needed_complete (direct s) (numbers s.rows) (direct_within s)
+    (Needs_trans (direct s) (numbers s.rows) (at_once t.1) (subst (λ (f : ℕ → List ℕ). Needs f t.0 u) (same_needs s) t.2))
+
+needs_reached : (s : Sheet) (v : ℕ) {u : ℕ} → Needs (direct s) v u → IsReached (graph_of s) (direct s v) u
+needs_reached s v (at_once h) = inl h
+needs_reached s v {u} (through {w = w} n h) =
+    let h' : has (needs_of (graph_of s) w) u ≡ true = ap (λ (l : List ℕ). has l u) (needs_here s w) ∙ h in
+    elim (needs_reached s v n) [
+      | inl d ↦ inr (w, d, at_once h')
+      | inr t ↦ inr (t.0, t.1, through t.2 h')
+    ]
+
+pub needed_reached : (s : Sheet) (v u : ℕ) → has (needed s v) u ≡ true → IsReached (graph_of s) (direct s v) u
+needed_reached s v u h = needs_reached s v (needed_sound (direct s) (numbers s.rows) v u h)
+
+bool_same : (a b : Bool) → (a ≡ true → b ≡ true) → (b ≡ true → a ≡ true) → a ≡ b
+bool_same true b f g = sym (f refl)
+bool_same false b f g = sym (false_from_ne_true b (λ h. false≢true (g h)))
+
+marked_slice : (o : Option Bool) → from_option false (λ b. b) o ≡ true → o ≡ Some true
+marked_slice None h = absurd (false≢true h)
+marked_slice (Some true) h = refl
+marked_slice (Some false) h = absurd (false≢true h)
+
+-- one that is needed passes exactly where one that is marked does
+pub any_needed : (s : Sheet) (v : ℕ) (marks : List Bool) (p : ℕ → Bool) → IsMarks (graph_of s) (IsReached (graph_of s) (direct s v)) marks
+    → list_any (λ u. is_marked marks u && p u) (numbers s.rows) ≡ list_any p (needed s v)
+any_needed s v marks p m =
+    bool_same (list_any (λ u. is_marked marks u && p u) (numbers s.rows)) (list_any p (needed s v))
+    (λ h.
+    let t : (w : ℕ) × (has (numbers s.rows) w ≡ true) × ((is_marked marks w && p w) ≡ true) = any_has (λ u. is_marked marks u && p u) (numbers s.rows) h in
+    let both : (is_marked marks t.0 ≡ true) × (p t.0 ≡ true) = and_parts (is_marked marks t.0) (p t.0) t.2 in
+    has_any p (needed s v) t.0 (reached_needed s v t.0 (m.only t.0 (marked_slice (slice_get marks t.0) both.0))) both.1)
+    (λ h.
+    let t : (w : ℕ) × (has (needed s v) w ≡ true) × (p w ≡ true) = any_has p (needed s v) h in
+    let there : has (numbers s.rows) t.0 ≡ true = needed_within (direct s) (numbers s.rows) (direct_within s) v t.0 t.1 in
+    let r : (1 ≤ t.0) × (t.0 < 1 + length s.rows) = range_has 1 (length s.rows) t.0 there in
+    let mark : slice_get marks t.0 ≡ Some true = m.each t.0 (omega (arith, r.1, length_graph s)) (needed_reached s v t.0 t.1) in
+    has_any (λ u. is_marked marks u && p u) (numbers s.rows) t.0 there (ap (λ (o : Option Bool). from_option false (λ b. b) o && p t.0) mark ∙ t.2))
+
+-- a mark of a node that needs itself tells a circular variable
+pub circular_at : (s : Sheet) (marks : List Bool) (v : ℕ) → IsMarks (graph_of s) (needs_itself (graph_of s)) marks → v ≤ length s.rows → get_or marks v false ≡ circular s v
+circular_at s marks v m inside =
+    let len : v < length marks = omega (arith, m.all, length_graph s, inside) in
+    let read : slice_get marks v ≡ Some (get_or marks v false) = slice_get-get_or marks v false len in
+    bool_same (get_or marks v false) (circular s v)
+    (λ h. needed_complete (direct s) (numbers s.rows) (direct_within s) (subst (λ (f : ℕ → List ℕ). Needs f v v) (same_needs s) (m.only v (read ∙ ap (λ (b : Bool). Some b) h))))
+    (λ h. same_Some (get_or marks v false) true
+    (sym read ∙ m.each v (omega (arith, length_graph s, inside)) (subst (λ (f : ℕ → List ℕ). Needs f v v) (sym (same_needs s)) (needed_sound (direct s) (numbers s.rows) v v h))))

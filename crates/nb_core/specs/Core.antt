@@ -40,6 +40,10 @@ use Rattle.nb_core.specs.State.{ending_outcome}
 abbrev pub IsAddedCell : Event → Type 0
 IsAddedCell event = (cell : Cell) × (event ≡ EditEvent (AddCell 0 cell true)) × (is_plain cell ≡ true)
 
+-- an edit that adds an observed cell to module 0
+abbrev pub IsAdding : Edit → Type 0
+IsAdding edit = (cell : Cell) × (edit ≡ AddCell 0 cell true)
+
 -- the place of v's `pending` entry in its present start, and 0 for an idle v
 abbrev pub start_number : Reading → ℕ → ℕ
 start_number r v = from_option 0 (λ (s : Start). s.number) (start_of r v)

@@ -1,5 +1,4 @@
 pub mod Codes
 pub mod Core
 pub mod Given
-pub mod Scan
 pub mod State

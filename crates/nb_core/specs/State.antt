@@ -1,6 +1,6 @@
 -- How the core keeps what stands: rows, starts, and what each variable's names tie it to.
-use Rattle.std.specs.Prelude.{ℕ, ◌+◌, ◌-◌, ◌/◌, ◌%◌, ◌==◌, ◌≡◌, ◌≤◌, ◌&&◌, ◌||◌, Bool, true, false, not, nat_le, List, [], ◌∷◌, ◌++◌, map, length, Option, Some, None, is_some}
-use Rattle.std.specs.List.{list_any, list_all}
+use Rattle.std.specs.Prelude.{ℕ, ◌+◌, ◌-◌, ◌/◌, ◌%◌, ◌==◌, ◌≡◌, ◌≤◌, ◌&&◌, ◌||◌, Bool, true, false, not, nat_le, List, [], ◌∷◌, ◌++◌, map, length, Option, Some, None, is_some, slice_get}
+use Rattle.std.specs.List.{list_any, list_all, filter_map}
 use Rattle.nb_value.specs.declared.value.Value.{Value}
 use Rattle.nb_value.specs.declared.value.Value.TheVariants.{Null}
 use Rattle.nb_value.specs.declared.pairs.Field.{Field}
@@ -16,10 +16,11 @@ use Rattle.nb_sheet.specs.declared.row.BodyOf.TheVariants.{Cell as CellBody, Imp
 use Rattle.nb_sheet.specs.declared.row.VarRow.{VarRow}
 use Rattle.nb_log.specs.declared.entry.Entry.{Entry}
 use Rattle.nb_log.specs.declared.entry.Entry.TheVariants.{Fulfilled, Rejected}
-use Rattle.nb_sheet.specs.Lists.{nth, put, from_option, numbers}
+use Rattle.nb_sheet.specs.Lists.{Name, nth, put, from_option, numbers}
 use Rattle.nb_graph.specs.Needs.{has}
 use Rattle.nb_sheet.specs.Sheet.{Sheet}
-use Rattle.nb_resolve.specs.Names.{inputs, direct, duplicate}
+use Rattle.nb_resolve.specs.declared.resolution.Resolution.{Resolution}
+use Rattle.nb_resolve.specs.Names.{inputs, direct, duplicate, variable_of}
 use Rattle.nb_history.specs.Needs.{circular, needed}
 use Rattle.nb_history.specs.Reading.{Reading, Start, start_of, is_idle, renewal, shown}
 use Rattle.nb_history.specs.Rules.{is_behind, footing, input_code, marked_error, local_value, evaluation, deciding_error}
@@ -48,8 +49,6 @@ pub record Ties : Type 0 where
   pub inputs : List ℕ
   -- the variables among them
   pub direct : List ℕ
-  -- all that it needs
-  pub needed : List ℕ
 
 abbrev pub ties_of : Sheet → ℕ → Ties
 ties_of s v =
@@ -58,12 +57,31 @@ ties_of s v =
       is_circular = circular s v;
       inputs = map input_code (inputs s v);
       direct = direct s v;
-      needed = needed s v;
     }
 
 -- those of each variable, by number
 abbrev pub all_ties : Sheet → List Ties
 all_ties s = map (ties_of s) (numbers s.rows)
+
+-- the inputs of each variable, by number
+abbrev pub all_inputs : Sheet → List (List (Name × Resolution))
+all_inputs s = map (inputs s) (numbers s.rows)
+
+-- a graph whose nodes are 0 and the variables, by their inputs
+abbrev pub graph_by : List (List (Name × Resolution)) → List (List ℕ)
+graph_by all = [] ∷ map (filter_map variable_of) all
+
+-- the variables among them are as many as there are, or fewer
+abbrev pub IsWithin : List (List (Name × Resolution)) → Type 0
+IsWithin all = (i : ℕ) (is : List (Name × Resolution)) → slice_get all i ≡ Some is → (u : ℕ) → has (filter_map variable_of is) u ≡ true → u ≤ length all
+
+-- who needs whom directly
+abbrev pub graph_of : Sheet → List (List ℕ)
+graph_of s = graph_by (all_inputs s)
+
+-- whether a number is marked
+abbrev pub is_marked : List Bool → ℕ → Bool
+is_marked marks u = from_option false (λ b. b) (slice_get marks u)
 
 -- ---- starts
 
@@ -191,8 +209,15 @@ pub record IsCore (builtins : List (Field Value)) (rows : List VarRow) (starts :
   pub quiet : IsQuietLog builtins log
   pub few : length rows ≤ 1024
 
+-- the state over a sheet of one module
+abbrev pub IsStateOf : Sheet → List (Option Start) → List Entry → Type 0
+IsStateOf s starts log = IsState s.builtins s.rows starts log
+
 -- what its calls keep of a log that closes by these entries
 pub record IsClosed (builtins : List (Field Value)) (rows : List VarRow) (starts : List (Option Start)) (log es : List Entry) : Type 0 where
   pub state : IsState builtins rows starts (log ++ es)
   pub quiet : IsQuietLog builtins (log ++ es)
   pub closes : Closes (reading builtins log) es
+
+abbrev pub IsClosedOf : Sheet → List (Option Start) → List Entry → List Entry → Type 0
+IsClosedOf s starts log es = IsClosed s.builtins s.rows starts log es

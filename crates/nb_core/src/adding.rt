@@ -1,24 +1,24 @@
-ghost use Rattle.std.specs.Prelude.{◌≡◌, ◌≤◌, ◌<◌, ◌^◌, ◌++◌, ◌∷◌, [], true, List, None, length, IfOk, OnOk, OnErr};
+ghost use Rattle.std.specs.Prelude.{◌≡◌, ◌≤◌, ◌<◌, ◌^◌, ◌++◌, ◌∷◌, [], List, None, length, IfOk, OnOk, OnErr};
+ghost use Rattle.nb_sheet.specs.Sheet.{refusal, edited_sheet};
 ghost use Rattle.nb_sheet.specs.declared.edit.Edit.{Edit as EditValue};
 ghost use Rattle.nb_log.specs.declared.entry.Entry.{Entry as EntryValue};
-ghost use Rattle.nb_core.specs.State.{row_of, IsState, IsClosed};
-ghost use Rattle.nb_core.specs.Core.{IsAddedCell};
+ghost use Rattle.nb_core.specs.State.{IsStateOf, IsClosedOf};
+ghost use Rattle.nb_core.specs.Core.{IsAddedCell, IsAdding};
 
 use crate::closing::close;
 use crate::starts::{Started, copy_starts};
-use crate::ties::all_ties;
-use nb_log::{BodyOf, Edit, Entry, Event, VarRow};
-use nb_syntax::Cell;
-use nb_value::{Pairs, Tree, Value};
+use crate::ties::tie;
+use nb_log::{Entry, Event};
+use nb_sheet::{Edit, Sheet};
 use std::alloc::{AllocError, Global};
 
-/// The cell that an event adds.
-pub fn cell_of(event: &Event) -> &Cell
+/// The edit of an event that adds a cell.
+pub fn edit_of(event: &Event) -> &Edit
     requires { IsAddedCell event.now }
-    ensures { event.now ≡ Event.Edit (Edit.AddCell 0 result.now true) }
+    ensures { event.now ≡ Event.Edit result.now }
 {
     match event {
-        Event::Edit(Edit::AddCell { cell, .. }) => cell,
+        Event::Edit(edit) => edit,
         _ => unreachable!(),
     }
 }
@@ -34,21 +34,6 @@ pub fn edit_entry(editor: u8, event: Event) -> Entry
     }
 }
 
-/// The row of an added observed cell of module 0.
-fn new_row(alloc: Global, cell: &Cell, place: u64) -> Result<VarRow, AllocError>
-    ensures { IfOk result (λ row. row ≡ row_of cell.now place) }
-{
-    let name = cell.name.copy(alloc)?;
-    let body = cell.copy(alloc)?;
-    Ok(VarRow {
-        module: 0,
-        observed: true,
-        name,
-        body: Some(BodyOf::Cell(body)),
-        place,
-    })
-}
-
 /// What follows an entry by which one more variable came: the starts then, and the entries.
 #[derive(Drop)]
 pub struct After {
@@ -59,52 +44,57 @@ pub struct After {
 /// What follows, over copies of the starts.
 fn follows(
     alloc: Global,
-    builtins: &Pairs<Value>,
-    rows: &[VarRow],
+    sheet: &Sheet,
     starts: &[Option<Started>],
     place: u64,
 ) -> Result<After, AllocError>
-    requires few { length rows.now ≤ 1024 }
-    requires small { length builtins.now ≤ 65536 }
+    requires one_module { sheet.now.modules ≡ 1 }
     requires room { place < 2 ^ 63 }
-    requires state { (log : List EntryValue) × (place ≡ length log) × IsState builtins.now rows.now (starts.now ++ None ∷ []) log }
-    ensures { IfOk result (λ f. (log : List EntryValue) → place ≡ length log → IsState builtins.now rows.now (starts.now ++ None ∷ []) log
-        → IsClosed builtins.now rows.now f.starts.items log f.entries.items) }
+    requires state { (log : List EntryValue) × (place ≡ length log) × IsStateOf sheet.now (starts.now ++ None ∷ []) log }
+    ensures { IfOk result (λ f. (log : List EntryValue) → place ≡ length log → IsStateOf sheet.now (starts.now ++ None ∷ []) log
+        → IsClosedOf sheet.now f.starts.items log f.entries.items) }
 {
-    let ties = all_ties(alloc, builtins, rows)?;
+    let tied = tie(alloc, sheet)?;
     let mut copies = copy_starts(alloc, starts)?;
     copies.push(None)?;
-    let entries = close(alloc, builtins, rows, &ties, &mut copies, place)?;
+    let entries = close(
+        alloc,
+        sheet.builtins(),
+        sheet.rows(),
+        &tied.ties,
+        &tied.graph,
+        &mut copies,
+        place,
+    )?;
     Ok(After {
         starts: copies,
         entries,
     })
 }
 
-/// Adds the row of a cell, given at a place, and computes what follows. Where memory runs out, the rows stay.
+/// Does the edit that adds a cell, at a place, and computes what follows. Where memory runs out, the sheet is as it was.
 pub fn grow(
     alloc: Global,
-    builtins: &Pairs<Value>,
-    rows: &mut Vec<VarRow>,
+    sheet: &mut Sheet,
     starts: &[Option<Started>],
-    cell: &Cell,
+    edit: &Edit,
     place: u64,
 ) -> Result<After, AllocError>
-    requires few { length rows.old.items < 1024 }
-    requires small { length builtins.now ≤ 65536 }
+    requires one_module { sheet.old.modules ≡ 1 }
+    requires adds { IsAdding edit.now }
+    requires admitted { refusal sheet.old edit.now ≡ None }
     requires room { place < 2 ^ 63 }
-    requires state { (log : List EntryValue) × (place ≡ length log) × IsState builtins.now (rows.old.items ++ row_of cell.now place ∷ []) (starts.now ++ None ∷ []) log }
-    ensures row { OnOk result (rows.new.items ≡ rows.old.items ++ row_of cell.now place ∷ []) }
-    ensures closed { IfOk result (λ f. (log : List EntryValue) → place ≡ length log → IsState builtins.now (rows.old.items ++ row_of cell.now place ∷ []) (starts.now ++ None ∷ []) log
-        → IsClosed builtins.now (rows.old.items ++ row_of cell.now place ∷ []) f.starts.items log f.entries.items) }
-    ensures err { OnErr result (rows.new.items ≡ rows.old.items) }
+    requires state { (log : List EntryValue) × (place ≡ length log) × IsStateOf (edited_sheet sheet.old edit.now place) (starts.now ++ None ∷ []) log }
+    ensures sheet { OnOk result (sheet.new ≡ edited_sheet sheet.old edit.now place) }
+    ensures closed { IfOk result (λ f. (log : List EntryValue) → place ≡ length log → IsStateOf (edited_sheet sheet.old edit.now place) (starts.now ++ None ∷ []) log
+        → IsClosedOf (edited_sheet sheet.old edit.now place) f.starts.items log f.entries.items) }
+    ensures err { OnErr result (sheet.new ≡ sheet.old) }
 {
-    let row = new_row(alloc, cell, place)?;
-    rows.push(row)?;
-    match follows(alloc, builtins, rows, starts, place) {
+    sheet.apply(edit, place)?;
+    match follows(alloc, sheet, starts, place) {
         Ok(found) => Ok(found),
         Err(refused) => {
-            let _row = rows.pop();
+            sheet.retract();
             Err(refused)
         }
     }

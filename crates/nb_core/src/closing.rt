@@ -1,10 +1,12 @@
 ghost use Rattle.std.specs.Prelude.{◌≡◌, ◌≤◌, ◌<◌, ◌+◌, ◌^◌, ◌++◌, ◌∷◌, [], List, length, IfOk, OnOk};
 ghost use Rattle.nb_log.specs.declared.entry.Entry.{Entry as EntryValue};
-ghost use Rattle.nb_core.specs.State.{all_ties, sheet_of, begun, IsState, IsClosed};
+ghost use Rattle.nb_core.specs.State.{all_ties, graph_of, sheet_of, begun, IsState, IsClosed};
 
 use crate::starts::{Started, footing, next_to_begin};
 use crate::ties::Ties;
-use nb_log::{Entry, VarRow};
+use nb_graph::Graph;
+use nb_log::Entry;
+use nb_sheet::VarRow;
 use nb_value::{Items, Pairs, Value};
 use std::alloc::{AllocError, Global};
 
@@ -44,11 +46,13 @@ pub fn close(
     builtins: &Pairs<Value>,
     rows: &[VarRow],
     ties: &[Ties],
+    graph: &Graph,
     starts: &mut Vec<Option<Started>>,
     before: u64,
 ) -> Result<Vec<Entry>, AllocError>
     requires few { length rows.now ≤ 1024 }
     requires ties { ties.now ≡ all_ties (sheet_of builtins.now rows.now) }
+    requires graph { graph.now ≡ graph_of (sheet_of builtins.now rows.now) }
     requires room { before < 2 ^ 63 }
     requires state { (log : List EntryValue) × (before ≡ length log) × IsState builtins.now rows.now starts.old.items log }
     ensures { IfOk result (λ entries. (log : List EntryValue) → before ≡ length log → IsState builtins.now rows.now starts.old.items log
@@ -56,7 +60,7 @@ pub fn close(
 {
     let mut entries = Vec::new(alloc);
     loop {
-        match next_to_begin(alloc, builtins, rows, ties, starts)? {
+        match next_to_begin(alloc, builtins, rows, ties, graph, starts)? {
             None => return Ok(entries),
             Some(v) => begin(alloc, builtins, rows, ties, starts, before, v, &mut entries)?,
         }

@@ -6,13 +6,12 @@ ghost use Rattle.nb_history.specs.Needs.{circular};
 ghost use Rattle.nb_history.specs.Rules.{plain_error, through_input, first_error as first_error_of, value_given, first_value, answers_of, pulls_of};
 ghost use Rattle.nb_core.specs.Core.{work_of};
 ghost use Rattle.nb_core.specs.Given.{given_in, error_in, first_error_in, values_in, builtin_value as builtin_value_of, marked_by, first_work};
-ghost use Rattle.nb_core.specs.State.{at, sheet_of, shown_in};
+ghost use Rattle.nb_core.specs.State.{at, shown_in};
 
-use crate::names::inputs;
 use crate::starts::Started;
 use nb_eval::{Segment, Work};
-use nb_history::Resolution;
-use nb_log::{BodyOf, VarRow};
+use nb_resolve::{Input, Resolution, inputs};
+use nb_sheet::{BodyOf, Sheet};
 use nb_value::{CellError, ErrorKind, Items, Outcome, Pairs, Text, Tree, Value};
 use std::alloc::{AllocError, Global};
 
@@ -63,12 +62,12 @@ fn failure(
     alloc: Global,
     builtins: &Pairs<Value>,
     starts: &[Option<Started>],
-    input: &(Text, Resolution),
+    input: &Input,
 ) -> Result<Option<CellError>, AllocError>
     ensures { IfOk result (λ error. error ≡ error_in builtins.now starts.now input.now) }
 {
-    let name = &input.0;
-    match input.1 {
+    let name = input.name();
+    match input.resolution() {
         Resolution::Missing => Ok(Some(plain(alloc, ErrorKind::NotDefined, name)?)),
         Resolution::Twice => Ok(Some(plain(alloc, ErrorKind::DefinedTwice, name)?)),
         Resolution::Builtin(_) => Ok(None),
@@ -87,7 +86,7 @@ fn first_error(
     alloc: Global,
     builtins: &Pairs<Value>,
     starts: &[Option<Started>],
-    inputs: &[(Text, Resolution)],
+    inputs: &[Input],
 ) -> Result<Option<CellError>, AllocError>
     ensures { IfOk result (λ error. error ≡ first_error_in builtins.now starts.now inputs.now) }
 {
@@ -124,11 +123,11 @@ fn value_of(
     alloc: Global,
     builtins: &Pairs<Value>,
     starts: &[Option<Started>],
-    input: &(Text, Resolution),
+    input: &Input,
 ) -> Result<Value, AllocError>
     ensures { IfOk result (λ value. value ≡ value_given (given_in builtins.now starts.now input.now)) }
 {
-    match input.1 {
+    match input.resolution() {
         Resolution::Missing | Resolution::Twice => Ok(Value::Null),
         Resolution::Builtin(b) => {
             let value = builtin_value(alloc, builtins, b)?;
@@ -149,7 +148,7 @@ fn values(
     alloc: Global,
     builtins: &Pairs<Value>,
     starts: &[Option<Started>],
-    inputs: &[(Text, Resolution)],
+    inputs: &[Input],
 ) -> Result<Pairs<Value>, AllocError>
     ensures { IfOk result (λ values. values ≡ values_in builtins.now starts.now inputs.now) }
 {
@@ -158,7 +157,7 @@ fn values(
         let place = inputs.len() - 1 - k;
         let input = &inputs[place];
         let value = value_of(alloc, builtins, starts, input)?;
-        values.put(input.0.copy(alloc)?, value)?;
+        values.put(input.name().copy(alloc)?, value)?;
     }
     Ok(values)
 }
@@ -204,7 +203,7 @@ fn deciding(
     builtins: &Pairs<Value>,
     starts: &[Option<Started>],
     marked: Option<CellError>,
-    inputs: &[(Text, Resolution)],
+    inputs: &[Input],
 ) -> Result<Option<CellError>, AllocError>
     ensures { IfOk result (λ error. error ≡ or_else marked (first_error_in builtins.now starts.now inputs.now)) }
 {
@@ -249,24 +248,23 @@ fn body_work(alloc: Global, body: &Option<BodyOf>, values: Pairs<Value>) -> Resu
 /// What is to be done for a ready variable at its first pull. The marks are those of its start.
 pub fn work(
     alloc: Global,
-    builtins: &Pairs<Value>,
-    rows: &[VarRow],
+    sheet: &Sheet,
     starts: &[Option<Started>],
     v: u32,
     is_duplicate: bool,
     is_circular: bool,
 ) -> Result<Work, AllocError>
-    requires few { length rows.now ≤ 1024 }
-    requires small { length builtins.now ≤ 65536 }
-    requires number { (0 < v) × (v ≤ length rows.now) }
-    requires duplicate { is_duplicate ≡ duplicate (sheet_of builtins.now rows.now) v }
-    requires circular { is_circular ≡ circular (sheet_of builtins.now rows.now) v }
-    requires answers { answers_of (at builtins.now rows.now starts.now) v ≡ [] }
-    requires pulls { pulls_of (at builtins.now rows.now starts.now) v ≡ 1 }
-    ensures { IfOk result (λ work. work ≡ work_of (at builtins.now rows.now starts.now) v) }
+    requires one_module { sheet.now.modules ≡ 1 }
+    requires number { (0 < v) × (v ≤ length sheet.now.rows) }
+    requires duplicate { is_duplicate ≡ duplicate sheet.now v }
+    requires circular { is_circular ≡ circular sheet.now v }
+    requires answers { answers_of (at sheet.now.builtins sheet.now.rows starts.now) v ≡ [] }
+    requires pulls { pulls_of (at sheet.now.builtins sheet.now.rows starts.now) v ≡ 1 }
+    ensures { IfOk result (λ work. work ≡ work_of (at sheet.now.builtins sheet.now.rows starts.now) v) }
 {
-    let row = &rows[v as usize - 1];
-    let found = inputs(alloc, builtins, rows, row)?;
+    let builtins = sheet.builtins();
+    let row = &sheet.rows()[v as usize - 1];
+    let found = inputs(alloc, sheet, v)?;
     let marked = marked_error(alloc, &row.name, is_duplicate, is_circular)?;
     let error = deciding(alloc, builtins, starts, marked, &found)?;
     match error {

@@ -6,12 +6,9 @@ mod closing;
 mod done;
 mod inputs;
 mod machine;
-mod names;
 mod placed;
 mod readiness;
 mod starts;
-#[cfg(test)]
-mod tests;
 mod ties;
 
 pub use machine::{Core, settle};

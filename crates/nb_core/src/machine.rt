@@ -8,13 +8,14 @@ ghost use Rattle.nb_history.specs.Rules.{ready as ready_of, next, wanted as want
 ghost use Rattle.nb_history.specs.Serial.{least_var};
 ghost use Rattle.nb_core.specs.Core.{IsAddedCell, IsAdmitted, Gains, Places, IsLonger, Settles, ShownIs, work_of, start_number, shown_outcome, running, RestsOnScratch};
 
-use crate::adding::{After, cell_of, edit_entry, grow};
+use crate::adding::{After, edit_entry, edit_of, grow};
 use crate::done::{copy_outcome, done_of, entry_of, outcome};
 use crate::placed::{Placed, Shown};
 use crate::starts::Started;
 use crate::{inputs, readiness};
 use nb_eval::{Work, WorkDone, is_work_of};
-use nb_log::{Entry, Event, Log, Refusal, VarRow};
+use nb_log::{Entry, Event, Log, Refusal, refusal_of};
+use nb_sheet::Sheet;
 use nb_value::{Outcome, Pairs, Value};
 use std::alloc::{AllocError, Global};
 use std::marker::Model;
@@ -22,21 +23,17 @@ use std::marker::Model;
 /// A log is full past this size.
 const FULL: u64 = 4_000_000;
 
-/// The most variables that there may be.
-const MOST: usize = 1024;
-
 /// The machine. Contracts see it as its builtins and its log.
 #[derive(Drop)]
 pub struct Core {
     alloc: Global,
-    builtins: Pairs<Value>,
+    sheet: Sheet,
     log: Log,
-    rows: Vec<VarRow>,
     starts: Vec<Option<Started>>,
 }
 
 impl Model for Core {
-    ghost use Rattle.std.specs.Prelude.{◌≤◌, length};
+    ghost use Rattle.std.specs.Prelude.{◌≡◌};
     ghost use Rattle.nb_history.specs.History.{History};
     ghost use Rattle.nb_core.specs.Codes.{history_code};
     ghost use Rattle.nb_value.specs.contracts.value.Value as value;
@@ -48,9 +45,9 @@ impl Model for Core {
 
     ghost use Rattle.nb_core.specs.State.{IsCore};
 
-    ghost view = { λ c. record { builtins = c.builtins; log = c.log.entries } };
+    ghost view = { λ c. record { builtins = c.sheet.builtins; log = c.log.entries } };
 
-    ghost invariant = { λ c. IsCore c.builtins c.rows.items c.starts.items c.log.entries × (length c.builtins ≤ 65536) };
+    ghost invariant = { λ c. IsCore c.sheet.builtins c.sheet.rows c.starts.items c.log.entries × (c.sheet.modules ≡ 1) };
 }
 
 impl Core {
@@ -59,11 +56,11 @@ impl Core {
         requires { length builtins ≤ 65536 }
         ensures { IfOk result (λ core. core ≡ record { builtins = builtins; log = [] }) }
     {
+        let sheet = Sheet::new(alloc, builtins)?;
         Ok(Core {
             alloc,
-            builtins,
+            sheet,
             log: Log::new(alloc),
-            rows: Vec::new(alloc),
             starts: Vec::new(alloc),
         })
     }
@@ -80,10 +77,10 @@ impl Core {
         if self.log.size() > FULL {
             return self.refuse(editor, Refusal::LogFull, event);
         }
-        if self.rows.len() >= MOST {
-            return self.refuse(editor, Refusal::TooManyVariables, event);
+        match self.sheet.check(edit_of(&event)) {
+            Ok(()) => self.add(editor, event),
+            Err(refused) => self.refuse(editor, refusal_of(refused), event),
         }
-        self.add(editor, event)
     }
 
     /// Writes down that an event is refused.
@@ -116,7 +113,6 @@ impl Core {
     fn add(&mut self, editor: u8, event: Event) -> Result<u64, (Event, AllocError)>
         requires low { editor < 8 }
         requires form { IsAddedCell event }
-        requires few { length (standing self.old).sheet.rows < 1024 }
         requires room { length self.old.log ≤ 4000000 }
         requires admitted { IsAdmitted (standing self.old) editor event }
         ensures ok { IfOk result (λ place. (place ≡ length self.old.log + 1) × Gains self.old (admit (standing self.old) editor event) self.new) }
@@ -125,10 +121,9 @@ impl Core {
         let place = self.log.len() + 1;
         match grow(
             self.alloc,
-            &self.builtins,
-            &mut self.rows,
+            &mut self.sheet,
             &self.starts,
-            cell_of(&event),
+            edit_of(&event),
             place,
         ) {
             Ok(after) => {
@@ -141,7 +136,7 @@ impl Core {
                         Ok(place)
                     }
                     Err(refused) => {
-                        let _row = self.rows.pop();
+                        self.sheet.retract();
                         Err((event, refused))
                     }
                 }
@@ -179,15 +174,7 @@ impl Core {
         ensures { IfOk result (λ work. work ≡ work_of (standing self.now) var) }
     {
         let marks = readiness::marks(&self.starts, var);
-        let work = inputs::work(
-            self.alloc,
-            &self.builtins,
-            &self.rows,
-            &self.starts,
-            var,
-            marks.0,
-            marks.1,
-        )?;
+        let work = inputs::work(self.alloc, &self.sheet, &self.starts, var, marks.0, marks.1)?;
         Ok(work)
     }
 
@@ -279,19 +266,12 @@ impl Core {
         &self.log
     }
 
-    /// The rows of the variables, by number.
-    pub fn rows(&self) -> &[VarRow]
-        ensures value { result.now ≡ (standing self.now).sheet.rows }
-        ensures few { length result.now ≤ 1024 }
+    /// The sheet: the builtins, and the rows of the variables. It takes no memory.
+    pub fn sheet(&self) -> &Sheet
+        ensures value { result.now ≡ (standing self.now).sheet }
+        ensures builtins { result.now.builtins ≡ self.now.builtins }
     {
-        &self.rows
-    }
-
-    /// The builtins.
-    pub fn builtins(&self) -> &Pairs<Value>
-        ensures { result.now ≡ self.now.builtins }
-    {
-        &self.builtins
+        &self.sheet
     }
 
     fn allocator(&self) -> Global {

@@ -1,14 +1,16 @@
-ghost use Rattle.std.specs.Prelude.{◌≡◌, ◌≤◌, ◌<◌, ◌↔◌, IsTrue, [], cond, length, IfOk, map};
+ghost use Rattle.std.specs.Prelude.{◌≡◌, ◌≤◌, ◌<◌, ◌↔◌, IsTrue, ◌&&◌, [], cond, length, IfOk, map};
 ghost use Rattle.std.specs.List.{list_any};
 ghost use Rattle.std.specs.Option.{option_copied};
 ghost use Rattle.nb_history.specs.Lists.{first_where};
 ghost use Rattle.nb_sheet.specs.Lists.{numbers};
 ghost use Rattle.nb_history.specs.Rules.{footing as footing_of, is_behind as is_behind_of};
 ghost use Rattle.nb_history.specs.Log.{new_start};
-ghost use Rattle.nb_core.specs.State.{at, sheet_of, all_ties as ties_of_all, renewal_in, showing_start, may_begin as begins_of};
+ghost use Rattle.nb_history.specs.Needs.{needed};
+ghost use Rattle.nb_core.specs.State.{at, sheet_of, all_ties as ties_of_all, graph_of, is_marked, renewal_in, showing_start, may_begin as begins_of};
 
 use crate::ties::{Ties, tied_at};
-use nb_log::VarRow;
+use nb_graph::Graph;
+use nb_sheet::VarRow;
 use nb_value::{Outcome, Pairs, Tree, Value};
 use std::alloc::{AllocError, Global};
 use std::marker::Model;
@@ -286,25 +288,73 @@ pub fn is_behind(
     }
 }
 
-/// Whether any of these is behind.
-fn any_behind(
+/// Whether a variable is marked and behind.
+fn is_marked_behind(
     alloc: Global,
     builtins: &Pairs<Value>,
     rows: &[VarRow],
     ties: &[Ties],
     starts: &[Option<Started>],
-    vars: &[u32],
+    marks: &[bool],
+    u: u32,
 ) -> Result<bool, AllocError>
     requires ties { ties.now ≡ ties_of_all (sheet_of builtins.now rows.now) }
     requires same_len { length starts.now ≡ length rows.now }
-    ensures { IfOk result (λ found. found ≡ list_any (is_behind_of (at builtins.now rows.now starts.now)) vars.now) }
+    requires inside { u < length marks.now }
+    ensures { IfOk result (λ found. found ≡ (is_marked marks.now u && is_behind_of (at builtins.now rows.now starts.now) u)) }
 {
-    for v in vars {
-        if is_behind(alloc, builtins, rows, ties, starts, *v)? {
+    if !marks[u as usize] {
+        return Ok(false);
+    }
+    let behind = is_behind(alloc, builtins, rows, ties, starts, u)?;
+    Ok(behind)
+}
+
+/// Whether any variable is marked and behind.
+fn any_marked_behind(
+    alloc: Global,
+    builtins: &Pairs<Value>,
+    rows: &[VarRow],
+    ties: &[Ties],
+    starts: &[Option<Started>],
+    marks: &[bool],
+) -> Result<bool, AllocError>
+    requires few { length rows.now ≤ 1024 }
+    requires ties { ties.now ≡ ties_of_all (sheet_of builtins.now rows.now) }
+    requires same_len { length starts.now ≡ length rows.now }
+    requires marks { length rows.now < length marks.now }
+    ensures { IfOk result (λ found. found ≡ list_any (λ u. is_marked marks.now u && is_behind_of (at builtins.now rows.now starts.now) u) (numbers rows.now)) }
+{
+    for k in 0..rows.len() {
+        let u = k as u32 + 1;
+        if is_marked_behind(alloc, builtins, rows, ties, starts, marks, u)? {
             return Ok(true);
         }
     }
     Ok(false)
+}
+
+/// Whether anything that a variable needs is behind.
+fn needs_one_behind(
+    alloc: Global,
+    builtins: &Pairs<Value>,
+    rows: &[VarRow],
+    ties: &[Ties],
+    graph: &Graph,
+    starts: &[Option<Started>],
+    v: u32,
+) -> Result<bool, AllocError>
+    requires few { length rows.now ≤ 1024 }
+    requires number { (0 < v) × (v ≤ length rows.now) }
+    requires ties { ties.now ≡ ties_of_all (sheet_of builtins.now rows.now) }
+    requires graph { graph.now ≡ graph_of (sheet_of builtins.now rows.now) }
+    requires same_len { length starts.now ≡ length rows.now }
+    ensures { IfOk result (λ found. found ≡ list_any (is_behind_of (at builtins.now rows.now starts.now)) (needed (sheet_of builtins.now rows.now) v)) }
+{
+    let own = tied_at(builtins, rows, ties, v);
+    let marks = graph.reach(own.direct())?;
+    let found = any_marked_behind(alloc, builtins, rows, ties, starts, &marks)?;
+    Ok(found)
 }
 
 /// Whether a variable is behind, and is circular or needs nothing that is behind.
@@ -313,11 +363,14 @@ pub fn may_begin(
     builtins: &Pairs<Value>,
     rows: &[VarRow],
     ties: &[Ties],
+    graph: &Graph,
     starts: &[Option<Started>],
     v: u32,
 ) -> Result<bool, AllocError>
+    requires few { length rows.now ≤ 1024 }
     requires number { (0 < v) × (v ≤ length rows.now) }
     requires ties { ties.now ≡ ties_of_all (sheet_of builtins.now rows.now) }
+    requires graph { graph.now ≡ graph_of (sheet_of builtins.now rows.now) }
     requires same_len { length starts.now ≡ length rows.now }
     ensures { IfOk result (λ begins. begins ≡ begins_of (at builtins.now rows.now starts.now) v) }
 {
@@ -329,7 +382,7 @@ pub fn may_begin(
     if own.is_circular() {
         return Ok(true);
     }
-    let others = any_behind(alloc, builtins, rows, ties, starts, own.needed())?;
+    let others = needs_one_behind(alloc, builtins, rows, ties, graph, starts, v)?;
     Ok(!others)
 }
 
@@ -339,16 +392,18 @@ pub fn next_to_begin(
     builtins: &Pairs<Value>,
     rows: &[VarRow],
     ties: &[Ties],
+    graph: &Graph,
     starts: &[Option<Started>],
 ) -> Result<Option<u32>, AllocError>
     requires few { length rows.now ≤ 1024 }
     requires ties { ties.now ≡ ties_of_all (sheet_of builtins.now rows.now) }
+    requires graph { graph.now ≡ graph_of (sheet_of builtins.now rows.now) }
     requires same_len { length starts.now ≡ length rows.now }
     ensures { IfOk result (λ found. found ≡ first_where (begins_of (at builtins.now rows.now starts.now)) (numbers rows.now)) }
 {
     for k in 0..rows.len() {
         let v = k as u32 + 1;
-        if may_begin(alloc, builtins, rows, ties, starts, v)? {
+        if may_begin(alloc, builtins, rows, ties, graph, starts, v)? {
             return Ok(Some(v));
         }
     }

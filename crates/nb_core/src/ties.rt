@@ -1,29 +1,27 @@
-ghost use Rattle.std.specs.Prelude.{◌≡◌, ◌≤◌, ◌<◌, ◌+◌, ◌↔◌, IsTrue, length, IfOk, map};
-ghost use Rattle.std.specs.List.{range_with_len};
+ghost use Rattle.std.specs.Prelude.{◌≡◌, ◌≤◌, ◌<◌, ℕ, length, IfOk, OnOk, map, true};
+ghost use Rattle.std.specs.List.{filter_map};
 ghost use Rattle.nb_graph.specs.Needs.{has};
-ghost use Rattle.nb_sheet.specs.Lists.{numbers};
-ghost use Rattle.nb_graph.specs.Needs.{grown, rounds};
-ghost use Rattle.nb_resolve.specs.Names.{direct as direct_of};
+ghost use Rattle.nb_graph.specs.Graph.{with_needs, needs_itself, IsMarks};
+ghost use Rattle.nb_resolve.specs.Names.{inputs as inputs_of, variable_of};
+ghost use Rattle.nb_history.specs.Needs.{circular as circular_of};
 ghost use Rattle.nb_history.specs.Rules.{input_code};
-ghost use Rattle.nb_core.specs.Scan.{needs_in, reaches, marked_from, numbers_marked};
-ghost use Rattle.nb_core.specs.State.{sheet_of, ties_of, all_ties as ties_of_all};
+ghost use Rattle.nb_core.specs.State.{sheet_of, ties_of, all_ties as ties_of_all, all_inputs, graph_by, graph_of, IsWithin};
 
-use crate::names::{direct, inputs, is_duplicate, variables};
-use nb_history::Resolution;
-use nb_log::VarRow;
-use nb_value::{Items, Pairs, Text, Value};
+use nb_graph::Graph;
+use nb_resolve::{Input, Resolution, inputs, is_duplicate, variables};
+use nb_sheet::{Sheet, VarRow};
+use nb_value::{Items, Pairs, Value};
 use std::alloc::{AllocError, Global};
 use std::marker::Model;
 
-/// What a variable's names tie it to: whether it is a duplicate, whether it is circular, its inputs by number,
-/// the variables among them, and all that it needs.
+/// What a variable's names tie it to: whether it is a duplicate, whether it is circular, its inputs by number, and
+/// the variables among them.
 #[derive(Drop)]
 pub struct Ties {
     is_duplicate: bool,
     is_circular: bool,
     inputs: Vec<u64>,
     direct: Vec<u32>,
-    needed: Vec<u32>,
 }
 
 impl Model for Ties {
@@ -31,7 +29,7 @@ impl Model for Ties {
 
     ghost Value = { TiesValue };
 
-    ghost view = { λ t. record { is_duplicate = t.is_duplicate; is_circular = t.is_circular; inputs = t.inputs.items; direct = t.direct.items; needed = t.needed.items } };
+    ghost view = { λ t. record { is_duplicate = t.is_duplicate; is_circular = t.is_circular; inputs = t.inputs.items; direct = t.direct.items } };
 }
 
 impl Ties {
@@ -62,20 +60,13 @@ impl Ties {
     {
         &self.direct
     }
-
-    /// All that it needs.
-    pub fn needed(&self) -> &[u32]
-        ensures { result.now ≡ self.now.needed }
-    {
-        &self.needed
-    }
 }
 
 /// An input's resolution as a number.
-fn code(input: &(Text, Resolution)) -> u64
+fn code(input: &Input) -> u64
     ensures { result ≡ input_code input.now }
 {
-    match input.1 {
+    match input.resolution() {
         Resolution::Missing => 0,
         Resolution::Twice => 1,
         Resolution::Var(v) => 2 + (v as u64 + v as u64),
@@ -83,160 +74,114 @@ fn code(input: &(Text, Resolution)) -> u64
     }
 }
 
-fn codes(alloc: Global, inputs: &[(Text, Resolution)]) -> Result<Vec<u64>, AllocError>
+fn codes(alloc: Global, inputs: &[Input]) -> Result<Vec<u64>, AllocError>
     ensures { IfOk result (λ found. found.items ≡ map input_code inputs.now) }
 {
     inputs.iter().map(code).collect(alloc)
 }
 
-/// Whether a number is in the list.
-pub fn contains(xs: &[u32], x: u32) -> bool
-    ensures { result ≡ has xs.now x }
+/// The inputs of each variable, by number.
+fn inputs_of_all(alloc: Global, sheet: &Sheet) -> Result<Vec<Items<Input>>, AllocError>
+    ensures { IfOk result (λ all. all.items ≡ all_inputs sheet.now) }
 {
-    xs.iter().any(|y| *y == x)
-}
-
-/// Sets the marks of numbers. The first mark is that of 1.
-fn mark(marks: &mut [bool], vars: &[u32])
-    ensures { marks.new ≡ marked_from 1 vars.now marks.old }
-{
-    for u in vars {
-        let at = *u as usize;
-        if at >= 1 && at <= marks.len() {
-            marks[at - 1] = true;
-        }
-    }
-}
-
-/// Sets the marks of the direct needs of a variable.
-fn mark_needs(marks: &mut [bool], table: &[Items<u32>], w: u32)
-    ensures { marks.new ≡ marked_from 1 (needs_in table.now w) marks.old }
-{
-    if w >= 1 && w as usize <= table.len() {
-        mark(marks, table[w as usize - 1].as_slice());
-    }
-}
-
-/// The marks of the variables of a list and of their direct needs.
-fn reached(alloc: Global, table: &[Items<u32>], vars: &[u32]) -> Result<Vec<bool>, AllocError>
-    ensures { IfOk result (λ marks. marks.items ≡ map (reaches (needs_in table.now) vars.now) (range_with_len 1 (length table.now))) }
-{
-    let mut marks = vec![in alloc; false; table.len()]?;
-    mark(&mut marks, vars);
-    for w in vars {
-        mark_needs(&mut marks, table, *w);
-    }
-    Ok(marks)
-}
-
-/// The numbers that are marked.
-fn listed(alloc: Global, marks: &[bool]) -> Result<Vec<u32>, AllocError>
-    requires { length marks.now ≤ 1024 }
-    ensures { IfOk result (λ found. found.items ≡ numbers_marked 1 marks.now) }
-{
-    let mut found = Vec::new(alloc);
-    for i in 0..marks.len() {
-        if marks[i] {
-            found.push(i as u32 + 1)?;
-        }
-    }
-    Ok(found)
-}
-
-/// The variables of a list, and their direct needs.
-fn with_inputs(alloc: Global, table: &[Items<u32>], vars: &[u32]) -> Result<Vec<u32>, AllocError>
-    requires { length table.now ≤ 1024 }
-    ensures { IfOk result (λ more. more.items ≡ grown (needs_in table.now) (numbers table.now) vars.now) }
-{
-    let marks = reached(alloc, table, vars)?;
-    let more = listed(alloc, &marks)?;
-    Ok(more)
-}
-
-fn same_vars(xs: &[u32], ys: &[u32]) -> bool
-    ensures { IsTrue result ↔ (xs.now ≡ ys.now) }
-{
-    xs == ys
-}
-
-/// All that is needed through direct needs. It stops where a round adds nothing.
-fn needed(alloc: Global, table: &[Items<u32>], first: &[u32]) -> Result<Vec<u32>, AllocError>
-    requires { length table.now ≤ 1024 }
-    ensures { IfOk result (λ all. all.items ≡ rounds (needs_in table.now) (numbers table.now) (length table.now) first.now) }
-{
-    let mut all = Vec::from_slice(alloc, first)?;
-    for _round in 0..table.len() {
-        let more = with_inputs(alloc, table, &all)?;
-        if same_vars(&more, &all) {
-            return Ok(more);
-        }
-        all = more;
+    let rows = sheet.rows();
+    let mut all = Vec::new(alloc);
+    for i in 0..rows.len() {
+        let found = inputs(alloc, sheet, i as u32 + 1)?;
+        all.push(Items::from_vec(found))?;
     }
     Ok(all)
 }
 
-/// The direct needs of each variable.
-fn direct_table(
-    alloc: Global,
-    builtins: &Pairs<Value>,
-    rows: &[VarRow],
-) -> Result<Vec<Items<u32>>, AllocError>
-    requires few { length rows.now ≤ 1024 }
-    requires small { length builtins.now ≤ 65536 }
-    ensures { IfOk result (λ table. table.items ≡ map (direct_of (sheet_of builtins.now rows.now)) (numbers rows.now)) }
+/// Sets what a variable needs directly, by its inputs.
+fn set_needs(alloc: Global, graph: &mut Graph, v: u32, inputs: &[Input]) -> Result<(), AllocError>
+    requires node { v < length graph.old }
+    requires within { (u : ℕ) → has (filter_map variable_of inputs.now) u ≡ true → u < length graph.old }
+    ensures { OnOk result (graph.new ≡ with_needs graph.old v (filter_map variable_of inputs.now)) }
 {
-    let mut table = Vec::new(alloc);
-    for i in 0..rows.len() {
-        let vars = direct(alloc, builtins, rows, &rows[i])?;
-        table.push(Items::from_vec(vars))?;
-    }
-    Ok(table)
+    let vars = variables(alloc, inputs)?;
+    graph.set(v, &vars)?;
+    Ok(())
 }
 
-/// What a variable's names tie it to, by the table of direct needs.
+/// Who needs whom directly, by the inputs of each variable.
+fn graph_by_inputs(alloc: Global, all: &[Items<Input>]) -> Result<Graph, AllocError>
+    requires few { length all.now ≤ 1024 }
+    requires within { IsWithin all.now }
+    ensures { IfOk result (λ graph. graph ≡ graph_by all.now) }
+{
+    let mut graph = Graph::new(alloc, all.len() as u32 + 1)?;
+    for i in 0..all.len() {
+        set_needs(alloc, &mut graph, i as u32 + 1, all[i].as_slice())?;
+    }
+    Ok(graph)
+}
+
+/// What a variable's inputs and marks tie it to.
 fn tied(
     alloc: Global,
-    builtins: &Pairs<Value>,
-    rows: &[VarRow],
-    table: &[Items<u32>],
+    sheet: &Sheet,
+    inputs: &[Input],
+    is_circular: bool,
     v: u32,
 ) -> Result<Ties, AllocError>
-    requires few { length rows.now ≤ 1024 }
-    requires small { length builtins.now ≤ 65536 }
-    requires number { (0 < v) × (v ≤ length rows.now) }
-    requires table { table.now ≡ map (direct_of (sheet_of builtins.now rows.now)) (numbers rows.now) }
-    ensures { IfOk result (λ t. t ≡ ties_of (sheet_of builtins.now rows.now) v) }
+    requires inputs { inputs.now ≡ inputs_of sheet.now v }
+    requires circular { is_circular ≡ circular_of sheet.now v }
+    ensures { IfOk result (λ t. t ≡ ties_of sheet.now v) }
 {
-    let row = &rows[v as usize - 1];
-    let found = inputs(alloc, builtins, rows, row)?;
-    let inputs = codes(alloc, &found)?;
-    let vars = variables(alloc, &found)?;
-    let all = needed(alloc, table, &vars)?;
+    let codes = codes(alloc, inputs)?;
+    let vars = variables(alloc, inputs)?;
     Ok(Ties {
-        is_duplicate: is_duplicate(rows, row),
-        is_circular: contains(&all, v),
-        inputs,
+        is_duplicate: is_duplicate(sheet, v),
+        is_circular,
+        inputs: codes,
         direct: vars,
-        needed: all,
     })
 }
 
-/// What each variable's names tie it to, by number.
-pub fn all_ties(
+/// What each variable's names tie it to, by number, where the marks are those of circular variables.
+fn tied_all(
     alloc: Global,
-    builtins: &Pairs<Value>,
-    rows: &[VarRow],
+    sheet: &Sheet,
+    all: &[Items<Input>],
+    circular: &[bool],
 ) -> Result<Vec<Ties>, AllocError>
-    requires few { length rows.now ≤ 1024 }
-    requires small { length builtins.now ≤ 65536 }
-    ensures { IfOk result (λ all. all.items ≡ ties_of_all (sheet_of builtins.now rows.now)) }
+    requires few { length all.now ≤ 1024 }
+    requires inputs { all.now ≡ all_inputs sheet.now }
+    requires circular { IsMarks (graph_of sheet.now) (needs_itself (graph_of sheet.now)) circular.now }
+    ensures { IfOk result (λ ties. ties.items ≡ ties_of_all sheet.now) }
 {
-    let table = direct_table(alloc, builtins, rows)?;
-    let mut all = Vec::new(alloc);
-    for i in 0..rows.len() {
-        all.push(tied(alloc, builtins, rows, &table, i as u32 + 1)?)?;
+    let mut ties = Vec::new(alloc);
+    for i in 0..all.len() {
+        let own = tied(
+            alloc,
+            sheet,
+            all[i].as_slice(),
+            circular[i + 1],
+            i as u32 + 1,
+        )?;
+        ties.push(own)?;
     }
-    Ok(all)
+    Ok(ties)
+}
+
+/// What each variable's names tie it to, by number, and who needs whom directly.
+#[derive(Drop)]
+pub struct AllTies {
+    pub ties: Vec<Ties>,
+    pub graph: Graph,
+}
+
+/// What the names of a sheet tie its variables to. It costs a scan over the rows for each name of each cell.
+pub fn tie(alloc: Global, sheet: &Sheet) -> Result<AllTies, AllocError>
+    ensures ties { IfOk result (λ t. t.ties.items ≡ ties_of_all sheet.now) }
+    ensures graph { IfOk result (λ t. t.graph ≡ graph_of sheet.now) }
+{
+    let all = inputs_of_all(alloc, sheet)?;
+    let graph = graph_by_inputs(alloc, &all)?;
+    let circular = graph.on_cycle()?;
+    let ties = tied_all(alloc, sheet, &all, &circular)?;
+    Ok(AllTies { ties, graph })
 }
 
 /// A variable's ties among those of all.

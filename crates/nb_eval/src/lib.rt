@@ -24,5 +24,5 @@ pub use done::is_work_of;
 pub use finished::Finished;
 pub use given::{Ending, RunEnd, Segment};
 pub use law::{law_of_answers, law_of_loops, law_of_plain_cells, law_of_pulls};
-pub use replay::evaluate;
+pub use replay::{charges, evaluate};
 pub use work::{Work, WorkDone};

@@ -1,8 +1,8 @@
 //! Evaluation by replay.
 
-ghost use Rattle.std.specs.Prelude.{◌≡◌, ◌≢◌, ◌≤◌, ◌+◌, ◌-◌, length, IfOk, MatchResult};
+ghost use Rattle.std.specs.Prelude.{◌≡◌, ◌≢◌, ◌≤◌, ◌+◌, ◌-◌, length, IfOk, OnOk, MatchResult};
 ghost use Rattle.nb_eval.specs.Run.{Meets, HasRoom};
-ghost use Rattle.nb_eval.specs.Evaluation.{eval_body, within_size, ending_of, last_of, segment_end};
+ghost use Rattle.nb_eval.specs.Evaluation.{eval_body, within_size, ending_of, last_of, segment_end, charges as charges_of};
 
 use crate::effects::MAX_SHOWN;
 use crate::expr::eval_expr;
@@ -24,6 +24,29 @@ pub fn evaluate(alloc: Global, segment: Segment) -> Result<Finished, (Segment, A
     match run(alloc, &segment) {
         Ok(end) => Ok(Finished::of(segment, end)),
         Err(refused) => Err((segment, refused)),
+    }
+}
+
+/// The number of charges that the evaluation of a segment makes, whatever their amounts, with one that fails for want
+/// of fuel. It evaluates the segment, and fails only without memory.
+pub fn charges(alloc: Global, segment: &Segment) -> Result<u64, AllocError>
+    ensures { IfOk result (λ n. n ≡ charges_of segment.now) }
+{
+    // The pulls bound the charges.
+    let _pulls = segment.pulls;
+    let mut state = State::new(alloc);
+    let outcome = eval_body(&segment.cell.body, alloc, segment, &mut state);
+    without_want(outcome)?;
+    Ok(state.charges)
+}
+
+// Fails where an evaluation ran out of memory.
+fn without_want(outcome: Result<Value, Stop>) -> Result<(), AllocError>
+    ensures { OnOk result (outcome ≢ Err Stop.Memory) }
+{
+    match outcome {
+        Err(Stop::Memory) => Err(AllocError),
+        _ => Ok(()),
     }
 }
 

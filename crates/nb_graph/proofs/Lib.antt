@@ -1,1 +1,11 @@
 pub mod Reaches
+pub mod Lists
+pub mod Marks
+pub mod Cycles
+pub mod Rising
+pub mod Finishing
+pub mod Paths
+pub mod Steps
+pub mod Closing
+pub mod Turns
+pub mod Ends

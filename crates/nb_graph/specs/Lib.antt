@@ -1,2 +1,4 @@
 pub mod Needs
 pub mod Graph
+pub mod Marking
+pub mod Walks

@@ -2,5 +2,7 @@
 #![tactic(auto)]
 
 mod graph;
+mod ranks;
+mod reach;
 
 pub use graph::Graph;

@@ -6,11 +6,11 @@ ghost use Rattle.nb_value.specs.declared.value.Value.TheVariants as V;
 ghost use Rattle.nb_log.specs.Printing.{number, text_or_null, answer_items, error_items, outcome_items, entry_value, table_value, done_value};
 ghost use Rattle.nb_log.specs.Tickets.{HasSmallTicket, HasSmallTickets};
 
-use crate::edit::Edit;
 use crate::entry::{Entry, Refusal};
 use crate::event::Event;
 use crate::names::{kind_name, refusal_name, refusal_number};
 use crate::object::{edit_value, event_value, number_value, text_value};
+use nb_sheet::Edit;
 use nb_value::{Answer, CellError, Items, Outcome, Text, Tree, Value};
 use std::alloc::{AllocError, Global};
 

@@ -1,7 +1,8 @@
 //! Evaluations of cells by their texts.
 
 use nb_eval::{
-    Ending, Segment, evaluate, law_of_answers, law_of_loops, law_of_plain_cells, law_of_pulls,
+    Ending, Segment, charges, evaluate, law_of_answers, law_of_loops, law_of_plain_cells,
+    law_of_pulls,
 };
 use nb_log::kind_name;
 use nb_parser::parse_cell;
@@ -105,7 +106,30 @@ fn values() -> [Row; 24] {
     ]
 }
 
-fn pulls() -> [Row; 14] {
+/// As many answers as a pull may take.
+const ANSWERS: [&str; 64] = ["1"; 64];
+
+fn fetches() -> [Row; 3] {
+    [
+        Row {
+            answers: &ANSWERS,
+            ..ends(
+                "{ let s = 0; for (let b of range(0, 64)) { s = s + fetch(\"k\"); } return s; }",
+                "Done 64",
+            )
+        },
+        Row {
+            answers: &ANSWERS,
+            ..ends(
+                "{ for (let b of range(0, 65)) { let c = fetch(\"k\"); } }",
+                "Failed TooManyFetches fetch",
+            )
+        },
+        ends("[fetch(\"k\"), fetch(\"l\")]", "Needs k"),
+    ]
+}
+
+fn pulls() -> [Row; 10] {
     [
         ends("fetch(\"k\") + a", "Needs k"),
         Row {
@@ -151,6 +175,11 @@ fn pulls() -> [Row; 14] {
                 "Paused",
             )
         },
+    ]
+}
+
+fn cleanups() -> [Row; 4] {
+    [
         Row {
             cleanups: 1,
             ..ends("{ cleanup a; return 1; }", "Done 1")
@@ -259,8 +288,32 @@ fn cells_compute(rt: HostRuntime) -> Result<(), Fail> {
 }
 
 #[test]
+fn cells_fetch(rt: HostRuntime) -> Result<(), Fail> {
+    for row in fetches() {
+        check(&rt, rt.alloc(), &row)?;
+    }
+    Ok(())
+}
+
+#[test]
+fn charges_are_counted(rt: HostRuntime) -> Result<(), Fail> {
+    let alloc = rt.alloc();
+    let loops = ends(
+        "x = { let i = 0; while (i < 10000) { i = i + 1; } return i; }",
+        "",
+    );
+    assert_eq!(rt; charges(alloc, &segment(alloc, &loops)?)?, 70008);
+    let sum = ends("1 + 2", "");
+    assert_eq!(rt; charges(alloc, &segment(alloc, &sum)?)?, 3);
+    Ok(())
+}
+
+#[test]
 fn cells_pause(rt: HostRuntime) -> Result<(), Fail> {
     for row in pulls() {
+        check(&rt, rt.alloc(), &row)?;
+    }
+    for row in cleanups() {
         check(&rt, rt.alloc(), &row)?;
     }
     law_of_answers();

@@ -48,7 +48,20 @@ pub fn print(alloc: Global, core: &Core) -> Result<Bytes, AllocError>
 fn push_table(alloc: Global, out: &mut Bytes, core: &Core) -> Result<(), AllocError>
     ensures { OnOk result (out.new ≡ out.old ++ table_text (standing core.now)) }
 {
-    let rows = core.rows();
+    push_rows(alloc, out, core, core.sheet().rows())
+}
+
+/// The table lines of the wanted variables among these rows, which are those of the core.
+fn push_rows(
+    alloc: Global,
+    out: &mut Bytes,
+    core: &Core,
+    rows: &[VarRow],
+) -> Result<(), AllocError>
+    requires rows { rows.now ≡ (standing core.now).sheet.rows }
+    requires few { length rows.now ≤ 1024 }
+    ensures { OnOk result (out.new ≡ out.old ++ table_text (standing core.now)) }
+{
     for i in 0..rows.len() {
         push_variable(alloc, out, core, i as u32 + 1, &rows[i])?;
     }

@@ -1,14 +1,14 @@
 -- What the scans over rows and builtins find.
-use Rattle.std.specs.Prelude.{ℕ, ◌&&◌, ◌==◌, Bool, List, [], Option, Some, None}
+use Rattle.std.specs.Prelude.{ℕ, ◌&&◌, ◌==◌, Bool, false, List, [], Option, Some, None}
 use Rattle.std.specs.List.{position_from}
 use Rattle.std.specs.Str.{bytes_eq}
 use Rattle.nb_value.specs.declared.value.Value.{Value}
 use Rattle.nb_value.specs.declared.pairs.Field.{Field}
-use Rattle.nb_sheet.specs.Lists.{Name, is_name, numbers_from}
+use Rattle.nb_sheet.specs.Lists.{Name, is_name, numbers_from, from_option}
 use Rattle.nb_sheet.specs.declared.row.VarRow.{VarRow}
 use Rattle.nb_resolve.specs.declared.resolution.Resolution.{Resolution}
 use Rattle.nb_resolve.specs.declared.resolution.Resolution.TheVariants.{Var, Builtin, Twice, Missing}
-use Rattle.nb_resolve.specs.Names.{resolved}
+use Rattle.nb_resolve.specs.Names.{resolved, is_twice}
 
 abbrev pub has_name : ℕ → Name → VarRow → Bool
 has_name m n row = (row.«module» == m) && is_name row.name n
@@ -34,3 +34,7 @@ or_builtin None Missing = Missing
 or_builtin o (Var v) = Var v
 or_builtin o (Builtin b) = Builtin b
 or_builtin o Twice = Twice
+
+-- two rows or more have the row's module and name
+abbrev pub is_twin : List VarRow → VarRow → Bool
+is_twin rows row = from_option false (λ n. is_twice (numbers_from 1 (has_name row.module n) rows)) row.name

@@ -2,7 +2,7 @@ ghost use Rattle.std.specs.Prelude.{◌≡◌, ◌≤◌, length, IfOk, map};
 ghost use Rattle.std.specs.List.{filter_map};
 ghost use Rattle.nb_syntax.specs.FreeNames.{free};
 ghost use Rattle.nb_resolve.specs.Names.{resolve as resolve_of, duplicate, is_duplicate_row, inputs as inputs_of, inputs_of_row as row_inputs, inputs_of_body as body_inputs, variable_of};
-ghost use Rattle.nb_resolve.specs.Scan.{has_name, also, found_in, builtin_place, or_builtin};
+ghost use Rattle.nb_resolve.specs.Scan.{has_name, also, found_in, builtin_place, or_builtin, is_twin as is_twin_in};
 
 use crate::input::Input;
 use crate::resolution::Resolution;
@@ -80,17 +80,25 @@ pub fn resolve(sheet: &Sheet, within: u32, name: &str) -> Resolution
     or_built_in(at, found)
 }
 
-/// Whether another variable of its module has a row's name.
-fn is_duplicate_in(sheet: &Sheet, row: &VarRow) -> bool
-    ensures { result ≡ is_duplicate_row sheet.now row.now }
+/// Whether two rows or more have a row's module and name.
+fn is_twin(rows: &[VarRow], row: &VarRow) -> bool
+    requires { length rows.now ≤ 1024 }
+    ensures { result ≡ is_twin_in rows.now row.now }
 {
     match &row.name {
         None => false,
         Some(name) => matches!(
-            by_variables(sheet.rows(), row.module, name.as_str()),
+            by_variables(rows, row.module, name.as_str()),
             Resolution::Twice
         ),
     }
+}
+
+/// Whether another variable of its module has a row's name.
+fn is_duplicate_in(sheet: &Sheet, row: &VarRow) -> bool
+    ensures { result ≡ is_duplicate_row sheet.now row.now }
+{
+    is_twin(sheet.rows(), row)
 }
 
 /// Whether another variable of its module has a variable's name. It takes no memory, and costs a scan over the variables.

@@ -7,16 +7,16 @@ use Rattle.nb_core.proofs.machine.Core.add.Goals as goal
 pub grow-requires-clause-state : goal.grow-requires-clause-state
 grow-requires-clause-state c =
     let at : c.len-place.result + 1 ≡ length c.self.inside.log.entries + 1 = ap (λ n. n + 1) c.len-place.ensures.value in
-    told_added_state c.self.inside.builtins c.self.inside.rows.items c.self.inside.starts.items c.self.inside.log.entries c.self.invariant.0 c.args.self.now c.self.view_is
+    told_added_state c.self.inside.sheet.builtins c.self.inside.sheet.rows c.self.inside.starts.items c.self.inside.log.entries c.self.invariant.0 c.args.self.now c.self.view_is
     c.args.editor c.requires.low c.args.event c.cell_of.result.now c.cell_of.ensures c.requires.form c.requires.admitted (c.len-place.result + 1) at c.deref.result.now c.deref.ensures.value
 
 pub invariant_of-self : goal.invariant_of-self
 invariant_of-self c =
     let at : c.len-place.result + 1 ≡ length c.self.inside.log.entries + 1 = ap (λ n. n + 1) c.len-place.ensures.value in
     let told =
-    told_added c.self.inside.builtins c.self.inside.rows.items c.self.inside.starts.items c.self.inside.log.entries c.self.invariant.0 c.args.self.now c.self.view_is
+    told_added c.self.inside.sheet.builtins c.self.inside.sheet.rows c.self.inside.starts.items c.self.inside.log.entries c.self.invariant.0 c.args.self.now c.self.view_is
     c.args.editor c.requires.low c.args.event c.cell_of.result.now c.cell_of.ensures c.requires.form c.requires.admitted (c.len-place.result + 1) at c.deref.result.now c.deref.ensures.value
-    (few_here c.self.inside.builtins c.self.inside.rows.items c.self.inside.starts.items c.self.inside.log.entries c.self.invariant.0 c.args.self.now c.self.view_is c.requires.few)
+    (few_here c.self.inside.sheet.builtins c.self.inside.sheet.rows c.self.inside.starts.items c.self.inside.log.entries c.self.invariant.0 c.args.self.now c.self.view_is c.requires.few)
     c.grow.new.rows.items c.in-Ok.after.starts.items c.append.new.self.entries c.in-Ok.after.entries.items c.edit_entry.result
     c.in-Ok.ensures.closed c.in-Ok.ensures.row c.edit_entry.ensures
     (c.append.ensures
@@ -28,9 +28,9 @@ pub returns-in-Ok-reserve-clause-ok : goal.returns-in-Ok-reserve-clause-ok
 returns-in-Ok-reserve-clause-ok c =
     let at : c.len-place.result + 1 ≡ length c.self.inside.log.entries + 1 = ap (λ n. n + 1) c.len-place.ensures.value in
     let told =
-    told_added c.self.inside.builtins c.self.inside.rows.items c.self.inside.starts.items c.self.inside.log.entries c.self.invariant.0 c.args.self.now c.self.view_is
+    told_added c.self.inside.sheet.builtins c.self.inside.sheet.rows c.self.inside.starts.items c.self.inside.log.entries c.self.invariant.0 c.args.self.now c.self.view_is
     c.args.editor c.requires.low c.args.event c.cell_of.result.now c.cell_of.ensures c.requires.form c.requires.admitted (c.len-place.result + 1) at c.deref.result.now c.deref.ensures.value
-    (few_here c.self.inside.builtins c.self.inside.rows.items c.self.inside.starts.items c.self.inside.log.entries c.self.invariant.0 c.args.self.now c.self.view_is c.requires.few)
+    (few_here c.self.inside.sheet.builtins c.self.inside.sheet.rows c.self.inside.starts.items c.self.inside.log.entries c.self.invariant.0 c.args.self.now c.self.view_is c.requires.few)
     c.grow.new.rows.items c.in-Ok.after.starts.items c.append.new.self.entries c.in-Ok.after.entries.items c.edit_entry.result
     c.in-Ok.ensures.closed c.in-Ok.ensures.row c.edit_entry.ensures
     (c.append.ensures

@@ -8,15 +8,15 @@ use Rattle.nb_core.proofs.machine.Core.event.Goals as goal
 pub refuse-requires-clause-refused : goal.refuse-requires-clause-refused
 refuse-requires-clause-refused c =
     let full : 4000000 < total_size c.self.inside.log.entries = omega (arith, c.size.ensures) in
-    told_full c.self.inside.builtins c.self.inside.rows.items c.self.inside.starts.items c.self.inside.log.entries c.self.invariant.0 c.args.self.now c.self.view_is
+    told_full c.self.inside.sheet.builtins c.self.inside.sheet.rows c.self.inside.starts.items c.self.inside.log.entries c.self.invariant.0 c.args.self.now c.self.view_is
     c.args.editor c.args.event c.requires.form full
 
 pub refuse-requires-then-len-ge-MOST-clause-refused :
     goal.refuse-requires-then-len-ge-MOST-clause-refused
 refuse-requires-then-len-ge-MOST-clause-refused c =
     let room : total_size c.self.inside.log.entries ≤ 4000000 = omega (arith, c.size.ensures) in
-    let many : 1024 ≤ length c.self.inside.rows.items = omega arith in
-    told_many c.self.inside.builtins c.self.inside.rows.items c.self.inside.starts.items c.self.inside.log.entries c.self.invariant.0 c.args.self.now c.self.view_is
+    let many : 1024 ≤ length c.self.inside.sheet.rows = omega arith in
+    told_many c.self.inside.sheet.builtins c.self.inside.sheet.rows c.self.inside.starts.items c.self.inside.log.entries c.self.invariant.0 c.args.self.now c.self.view_is
     c.args.editor c.args.event c.requires.form room many
 
 pub add-requires-clause-room : goal.add-requires-clause-room
@@ -28,6 +28,6 @@ add-requires-clause-room c =
 pub add-requires-clause-admitted : goal.add-requires-clause-admitted
 add-requires-clause-admitted c =
     let room : total_size c.self.inside.log.entries ≤ 4000000 = omega (arith, c.size.ensures) in
-    let few : length c.self.inside.rows.items < 1024 = omega arith in
-    told_edit c.self.inside.builtins c.self.inside.rows.items c.self.inside.starts.items c.self.inside.log.entries c.self.invariant.0 c.args.self.now c.self.view_is
+    let few : length c.self.inside.sheet.rows < 1024 = omega arith in
+    told_edit c.self.inside.sheet.builtins c.self.inside.sheet.rows c.self.inside.starts.items c.self.inside.log.entries c.self.invariant.0 c.args.self.now c.self.view_is
     c.args.editor c.args.event c.requires.form room few

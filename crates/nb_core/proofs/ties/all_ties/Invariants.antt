@@ -1,7 +1,0 @@
-use Rattle.std.proofs.Common.{◌≡◌, map}
-use Rattle.std.specs.List.{range_with_len}
-use Rattle.nb_core.specs.State.{sheet_of, ties_of}
-use Rattle.nb_core.proofs.ties.all_ties.Given as goal
-
-abbrev pub invariant-loop-i : goal.invariant-loop-i
-invariant-loop-i l = l.all.items ≡ map (ties_of (sheet_of l.builtins l.rows)) (range_with_len 1 l.i)

@@ -1,0 +1,103 @@
+//! Work that an edit makes stale.
+ghost use Rattle.std.specs.Prelude.{IfOk};
+ghost use Rattle.nb_core.specs.Core.{IsAddedCell};
+
+use nb_core::{Core, Placed, Shown, settle};
+use nb_eval::{Work, WorkDone, evaluate};
+use nb_log::Event;
+use nb_parser::parse_cell;
+use nb_sheet::Edit;
+use nb_syntax::{Cell, is_plain};
+use nb_value::{ErrorKind, Pairs};
+use std::alloc::{AllocError, Global};
+use std::test::Fail;
+
+fn cell(alloc: Global, text: &str) -> Result<Cell, Fail> {
+    match parse_cell(alloc, text) {
+        Ok(cell) => Ok(cell),
+        Err(_) => Err("refused".into()),
+    }
+}
+
+// The event of an added cell.
+fn added(alloc: Global, text: &str) -> Result<Event, Fail>
+    ensures { IfOk result (λ event. IsAddedCell event) }
+{
+    let cell = cell(alloc, text)?;
+    if is_plain(&cell) {
+        Ok(Event::Edit(Edit::AddCell {
+            module: 0,
+            cell,
+            observed: true,
+        }))
+    } else {
+        Err("not plain".into())
+    }
+}
+
+// The place of the entry of an added cell.
+fn add(alloc: Global, core: &mut Core, text: &str) -> Result<u64, Fail> {
+    let event = added(alloc, text)?;
+    match core.event(0, event) {
+        Ok(place) => Ok(place),
+        Err((_event, _refused)) => Err("memory".into()),
+    }
+}
+
+fn done_of(alloc: Global, work: Work) -> Result<WorkDone, Fail> {
+    match work {
+        Work::Direct(outcome) => Ok(WorkDone::Direct(outcome)),
+        Work::Run(segment) => match evaluate(alloc, segment) {
+            Ok(finished) => Ok(WorkDone::Ran(finished)),
+            Err((_segment, _refused)) => Err("memory".into()),
+        },
+    }
+}
+
+// The least ready variable's work, done.
+fn first_done(alloc: Global, core: &Core) -> Result<Option<WorkDone>, Fail> {
+    match core.next_ready() {
+        None => Ok(None),
+        Some(var) => {
+            let work = core.segment(var)?;
+            Ok(Some(done_of(alloc, work)?))
+        }
+    }
+}
+
+fn complete(core: &mut Core, var: u32, start: u64, done: WorkDone) -> Result<Placed, AllocError> {
+    match core.complete(var, start, done) {
+        Ok(placed) => Ok(placed),
+        Err((_done, refused)) => Err(refused),
+    }
+}
+
+fn is_defined_twice(shown: Shown<'_>) -> bool {
+    match shown {
+        Shown::Error(error) => error.kind == ErrorKind::DefinedTwice,
+        _ => false,
+    }
+}
+
+#[test]
+fn a_second_definition_makes_work_stale(rt: HostRuntime) -> Result<(), Fail> {
+    let alloc = rt.alloc();
+    let mut core = Core::new(alloc, Pairs::new(alloc))?;
+    assert_eq!(rt; add(alloc, &mut core, "x = 1")?, 1);
+    assert_eq!(rt; core.start(1), 2);
+    let done = first_done(alloc, &core)?.ok_or("nothing is ready")?;
+    assert!(rt; matches!(done, WorkDone::Ran(_)));
+    assert_eq!(rt; add(alloc, &mut core, "x = 2")?, 3);
+    assert_eq!(rt;
+        complete(&mut core, 1, 2, done)?,
+        Placed::Stale { held: 2, now: 4 }
+    );
+    assert!(rt; matches!(core.shown(1), Shown::Waiting));
+    assert_eq!(rt; core.next_ready(), Some(1));
+    settle(&mut core)?;
+    assert!(rt; is_defined_twice(core.shown(1)));
+    assert!(rt; is_defined_twice(core.shown(2)));
+    assert!(rt; matches!(core.shown(3), Shown::Idle));
+    assert_eq!(rt; core.log().len(), 7);
+    Ok(())
+}
