@@ -4,6 +4,8 @@
 mod input;
 mod names;
 mod resolution;
+#[cfg(test)]
+mod tests;
 
 pub use input::Input;
 pub use names::{inputs, is_duplicate, resolve, variables};

@@ -7,7 +7,6 @@ use Rattle.nb_syntax.specs.declared.tree.Cell.{Cell}
 use Rattle.nb_sheet.specs.declared.row.BodyOf.{BodyOf}
 use Rattle.nb_sheet.specs.declared.row.BodyOf.TheVariants.{Cell as CellBody, Import as ImportBody}
 use Rattle.nb_sheet.specs.declared.row.VarRow.{VarRow}
-use Rattle.nb_sheet.specs.declared.refused.Refused.{Refused}
 use Rattle.nb_sheet.specs.declared.refused.Refused.TheVariants.{TooManyModules}
 use Rattle.nb_sheet.specs.Lists.{Name, nth, put, put_at, from_option}
 use Rattle.nb_sheet.specs.Sheet.{Sheet, IsSheet, is_body, is_row, where_true, defined_by, undefined, all_but_last}

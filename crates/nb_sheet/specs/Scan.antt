@@ -1,5 +1,5 @@
 -- What a scan over the rows for a name finds, and rows with one of them changed.
-use Rattle.std.specs.Prelude.{ℕ, ◌&&◌, ◌==◌, Bool, Option, Some, Result, Ok, Err, List, [], ◌∷◌}
+use Rattle.std.specs.Prelude.{ℕ, ◌&&◌, ◌==◌, Bool, Some, Result, Ok, Err, List, [], ◌∷◌}
 use Rattle.nb_sheet.specs.Lists.{nth, put, Name, is_name, numbers_where, from_option}
 use Rattle.nb_syntax.specs.declared.tree.Cell.{Cell}
 use Rattle.nb_sheet.specs.declared.row.BodyOf.TheVariants.{Cell as CellBody}

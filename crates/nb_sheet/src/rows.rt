@@ -28,6 +28,7 @@ pub fn drop_last(rows: &mut Vec<VarRow>)
     rows.truncate(kept);
 }
 
+/// Gives a row a name and a body.
 fn define_row(row: &mut VarRow, name: Option<Text>, body: BodyOf, place: u64)
     ensures { row.new ≡ defined_by name body place row.old }
 {
@@ -36,6 +37,7 @@ fn define_row(row: &mut VarRow, name: Option<Text>, body: BodyOf, place: u64)
     row.place = place;
 }
 
+/// Takes a row's name and body away.
 fn undefine_row(row: &mut VarRow)
     ensures { row.new ≡ undefined row.old }
 {
@@ -44,6 +46,7 @@ fn undefine_row(row: &mut VarRow)
     row.place = 0;
 }
 
+/// Gives a row another body.
 fn redefine_row(row: &mut VarRow, cell: Cell, place: u64)
     ensures { row.new ≡ redefined_by cell place row.old }
 {

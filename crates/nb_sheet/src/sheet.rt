@@ -137,6 +137,7 @@ impl Sheet {
         rows::drop_last(&mut self.rows);
     }
 
+    /// Does the edit that adds a module.
     fn add_module(&mut self)
         requires { refusal self.old Edit.AddModule ≡ None }
         ensures { self.new ≡ edited_sheet self.old Edit.AddModule 0 }
@@ -154,6 +155,7 @@ impl Sheet {
         rows::add(&mut self.rows, row)
     }
 
+    /// Does the edit that adds a variable.
     fn add_variable(&mut self, within: u32, observed: bool) -> Result<(), AllocError>
         requires { refusal self.old (Edit.AddVariable within observed) ≡ None }
         ensures ok { OnOk result (self.new ≡ edited_sheet self.old (Edit.AddVariable within observed) 0) }
@@ -168,6 +170,7 @@ impl Sheet {
         })
     }
 
+    /// Does the edit that adds a cell.
     fn add_cell(
         &mut self,
         within: u32,
@@ -199,6 +202,7 @@ impl Sheet {
         rows::define(&mut self.rows, variable, name, body, place);
     }
 
+    /// Does the edit that defines a variable.
     fn define(&mut self, variable: u32, cell: &Cell, place: u64) -> Result<(), AllocError>
         requires { refusal self.old (Edit.Define variable cell.now) ≡ None }
         ensures ok { OnOk result (self.new ≡ edited_sheet self.old (Edit.Define variable cell.now) place) }
@@ -210,6 +214,7 @@ impl Sheet {
         Ok(())
     }
 
+    /// Does the edit that imports a variable.
     fn import(
         &mut self,
         variable: u32,
@@ -228,6 +233,7 @@ impl Sheet {
         Ok(())
     }
 
+    /// Does the edit that deletes a variable.
     fn delete(&mut self, variable: u32)
         requires { refusal self.old (Edit.Delete variable) ≡ None }
         ensures { self.new ≡ edited_sheet self.old (Edit.Delete variable) 0 }
@@ -243,6 +249,7 @@ impl Sheet {
         rows::redefine(&mut self.rows, variable, cell, place);
     }
 
+    /// Does the edit that redefines the one variable of a name.
     fn redefine(&mut self, within: u32, cell: &Cell, place: u64) -> Result<(), AllocError>
         requires { refusal self.old (Edit.Redefine within cell.now) ≡ None }
         ensures ok { OnOk result (self.new ≡ edited_sheet self.old (Edit.Redefine within cell.now) place) }
