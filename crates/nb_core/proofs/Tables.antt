@@ -1,8 +1,8 @@
 -- Tables of what each variable's names tie it to, the graph of who needs whom, and marks of it.
-use Rattle.std.proofs.Common.{inl, inr, ℕ, zero, suc, ◌≡◌, ◌+◌, ◌-◌, ◌<◌, ◌≤◌, refl, sym, ◌∙◌, ap, subst, Bool, true, false, ◌&&◌, List, [], ◌∷◌, ◌++◌, map, length, length-append, take, length-take, get_or, replicate, arith, Option, Some, None}
+use Rattle.std.proofs.Common.{inl, inr, ℕ, zero, suc, ◌≡◌, ◌+◌, ◌-◌, ◌<◌, ◌≤◌, refl, sym, ◌∙◌, ap, subst, Bool, true, false, ◌&&◌, List, [], ◌∷◌, ◌++◌, map, length, length-append, take, get_or, replicate, arith, Option, Some, None}
 use Rattle.std.specs.Prelude.{slice_get}
 use Rattle.std.specs.List.{filter_map, list_any, range_with_len}
-use Rattle.std.proofs.lemmas.List.{length-map, take_more}
+use Rattle.std.proofs.lemmas.List.{length-map, length-take-le, take_more}
 use Rattle.std.proofs.lemmas.List.FromFn.{length-range_with_len, length-map-range_with_len, get_or-map-range_with_len, map-range_with_len_more}
 use Rattle.std.proofs.lemmas.Option.{same_Some, none-some, slice_get-get_or}
 use Rattle.std.proofs.lemmas.Bool.{cases_lt, cases_Bool, false≢true, and_parts, false_from_ne_true}
@@ -106,7 +106,8 @@ graph_goes_on all i is inside at =
     let xs : List (List ℕ) = [] ∷ map f (take i all) in
     let rest : List (List ℕ) = replicate (length all - (i + 1)) [] in
     let one : length all - i ≡ suc (length all - (i + 1)) = omega (arith, inside) in
-    let len : i + 1 ≡ length xs = omega (arith, length-map (take i all) f, length-take {xs = all} {n = i}, inside) in
+    let took : length (take i all) ≡ i = length-take-le i all (omega (arith, inside)) in
+    let len : i + 1 ≡ length xs = omega (arith, length-map (take i all) f, took) in
     let found : f (get_or all i is) ≡ f is = ap f (sym at) in
     ap (λ (m : ℕ). with_needs (xs ++ replicate m []) (i + 1) (f is)) one
     ∙ ap (λ (m : ℕ). with_needs (xs ++ [] ∷ rest) m (f is)) len

@@ -25,8 +25,8 @@ returns-in-Some c =
     c.in_ok-error.ensures in
     work_failing builtins rows starts v row found there ins c.in_ok-error.error c.in-Some.error told c.in-Some.is
 
-pub returns : goal.returns
-returns c =
+pub returns-in_ok-work-in-None : goal.returns-in_ok-work-in-None
+returns-in_ok-work-in-None c =
     let builtins = c.args.builtins.now in
     let rows = c.args.rows.now in
     let starts = c.args.starts.now in

@@ -1,5 +1,7 @@
 use Rattle.std.proofs.Common.{◌≡◌, ◌<◌, ◌≤◌, ◌∙◌, sym, ap, arith, length, Some, None}
 use Rattle.nb_log.specs.Size.{total_size}
+use Rattle.nb_log.specs.declared.entry.Refusal.{Refusal}
+use Rattle.nb_log.specs.declared.entry.Entry.TheVariants.{Refused}
 use Rattle.nb_sheet.specs.Sheet.{reason, refusal}
 use Rattle.nb_history.specs.History.{History}
 use Rattle.nb_core.proofs.Sizes.{length_size}
@@ -19,6 +21,7 @@ refuse-requires-in-Err-clause-refused c =
     told_refusal c.self.inside.sheet c.self.invariant.1 c.self.inside.starts.items c.self.inside.log.entries c.self.invariant.0 c.args.self.now c.self.view_is
     c.args.editor c.args.event c.edit_of.result.now c.requires.form c.edit_of.ensures
     c.in-Err.refused room against
+    ∙ ap (λ (x : Refusal). Refused c.args.editor x c.args.event) (sym c.refusal_of.ensures)
 
 pub add-requires-clause-room : goal.add-requires-clause-room
 add-requires-clause-room c =
