@@ -4,7 +4,7 @@ ghost use Rattle.nb_core.specs.Core.{IsAddedCell};
 
 use nb_core::{Core, Placed, Shown, settle};
 use nb_eval::{Work, WorkDone, evaluate};
-use nb_log::Event;
+use nb_log::{Entry, Event, Refusal};
 use nb_parser::parse_cell;
 use nb_sheet::Edit;
 use nb_syntax::{Cell, is_plain};
@@ -99,5 +99,29 @@ fn a_second_definition_makes_work_stale(rt: HostRuntime) -> Result<(), Fail> {
     assert!(rt; is_defined_twice(core.shown(2)));
     assert!(rt; matches!(core.shown(3), Shown::Idle));
     assert_eq!(rt; core.log().len(), 7);
+    Ok(())
+}
+
+// Why the entry at a place is a refusal, if it is one.
+fn refusal_at(core: &Core, place: u64) -> Option<Refusal> {
+    match core.log().get(place) {
+        Some(Entry::Refused { reason, .. }) => Some(*reason),
+        _ => None,
+    }
+}
+
+#[test]
+fn a_full_log_refuses(rt: HostRuntime) -> Result<(), Fail> {
+    let alloc = rt.alloc();
+    let mut core = Core::new(alloc, Pairs::new(alloc))?;
+    for _ in 0..243 {
+        add(alloc, &mut core, "range(0, 16383)")?;
+        settle(&mut core)?;
+    }
+    assert_eq!(rt; core.log().size(), 243 * (55 + 11 + 16_396));
+    let place = add(alloc, &mut core, "1")?;
+    assert_eq!(rt; place, 3 * 243 + 1);
+    assert!(rt; matches!(refusal_at(&core, place), Some(Refusal::LogFull)));
+    assert_eq!(rt; core.log().len(), place);
     Ok(())
 }
