@@ -15,7 +15,7 @@ use Rattle.nb_sheet.specs.declared.row.VarRow.{VarRow}
 use Rattle.nb_sheet.specs.Lists.{Name, nth, numbers, from_option}
 use Rattle.nb_sheet.specs.Sheet.{Sheet}
 use Rattle.nb_resolve.specs.declared.resolution.Resolution.{Resolution}
-use Rattle.nb_resolve.specs.Names.{direct, inputs, inputs_of_row, variable_of}
+use Rattle.nb_resolve.specs.Names.{direct, duplicate, inputs, inputs_of_row, variable_of}
 use Rattle.nb_history.specs.Needs.{needed, circular}
 use Rattle.nb_history.proofs.Direct.{direct_within}
 use Rattle.nb_history.proofs.Closing.{range_has}
@@ -53,6 +53,12 @@ slice_outside : {A : Type 0} (xs : List A) (i : ℕ) → length xs ≤ i → sli
 slice_outside [] i h = refl
 slice_outside (x ∷ xs) zero h = absurd (omega (arith, h))
 slice_outside (x ∷ xs) (suc i) h = slice_outside xs i (omega (arith, h))
+
+-- ---- the marks of duplicates
+
+pub duplicate_at : (s : Sheet) (marks : List Bool) (i : ℕ) → marks ≡ map (duplicate s) (numbers s.rows) → i < length s.rows → get_or marks i false ≡ duplicate s (i + 1)
+duplicate_at s marks i e inside =
+    ap (λ (l : List Bool). get_or l i false) e ∙ get_or-map-range_with_len (duplicate s) 1 (length s.rows) i (i + 1) false inside (omega arith)
 
 -- ---- the inputs of each variable
 

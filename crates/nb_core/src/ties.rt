@@ -2,13 +2,14 @@ ghost use Rattle.std.specs.Prelude.{◌≡◌, ◌≤◌, ◌<◌, ℕ, length, 
 ghost use Rattle.std.specs.List.{filter_map};
 ghost use Rattle.nb_graph.specs.Needs.{has};
 ghost use Rattle.nb_graph.specs.Graph.{with_needs, needs_itself, IsMarks};
-ghost use Rattle.nb_resolve.specs.Names.{inputs as inputs_of, variable_of};
+ghost use Rattle.nb_sheet.specs.Lists.{numbers};
+ghost use Rattle.nb_resolve.specs.Names.{duplicate, inputs as inputs_of, variable_of};
 ghost use Rattle.nb_history.specs.Needs.{circular as circular_of};
 ghost use Rattle.nb_history.specs.Rules.{input_code};
 ghost use Rattle.nb_core.specs.State.{sheet_of, ties_of, all_ties as ties_of_all, all_inputs, graph_by, graph_of, IsWithin};
 
 use nb_graph::Graph;
-use nb_resolve::{Input, Resolution, inputs, is_duplicate, variables};
+use nb_resolve::{Input, Resolution, inputs_where, is_duplicate, variables};
 use nb_sheet::{Sheet, VarRow};
 use nb_value::{Items, Pairs, Value};
 use std::alloc::{AllocError, Global};
@@ -80,15 +81,32 @@ fn codes(alloc: Global, inputs: &[Input]) -> Result<Vec<u64>, AllocError>
     inputs.iter().map(code).collect(alloc)
 }
 
-/// The inputs of each variable, by number.
-fn inputs_of_all(alloc: Global, sheet: &Sheet) -> Result<Vec<Items<Input>>, AllocError>
+/// Of each variable, by number, whether it is a duplicate.
+fn duplicates(alloc: Global, sheet: &Sheet) -> Result<Vec<bool>, AllocError>
+    ensures { IfOk result (λ all. all.items ≡ map (duplicate sheet.now) (numbers sheet.now.rows)) }
+{
+    let rows = sheet.rows();
+    let mut all = Vec::new(alloc);
+    for i in 0..rows.len() {
+        all.push(is_duplicate(sheet, i as u32 + 1))?;
+    }
+    Ok(all)
+}
+
+/// The inputs of each variable, by number, where it is known which are duplicates.
+fn inputs_of_all(
+    alloc: Global,
+    sheet: &Sheet,
+    duplicates: &[bool],
+) -> Result<Vec<Items<Input>>, AllocError>
+    requires { duplicates.now ≡ map (duplicate sheet.now) (numbers sheet.now.rows) }
     ensures inputs { IfOk result (λ all. all.items ≡ all_inputs sheet.now) }
     ensures few { IfOk result (λ all. length all.items ≤ 1024) }
 {
     let rows = sheet.rows();
     let mut all = Vec::new(alloc);
     for i in 0..rows.len() {
-        let found = inputs(alloc, sheet, i as u32 + 1)?;
+        let found = inputs_where(alloc, sheet, i as u32 + 1, duplicates[i])?;
         all.push(Items::from_vec(found))?;
     }
     Ok(all)
@@ -123,17 +141,19 @@ fn tied(
     alloc: Global,
     sheet: &Sheet,
     inputs: &[Input],
+    is_duplicate: bool,
     is_circular: bool,
     v: u32,
 ) -> Result<Ties, AllocError>
     requires inputs { inputs.now ≡ inputs_of sheet.now v }
+    requires duplicate { is_duplicate ≡ duplicate sheet.now v }
     requires circular { is_circular ≡ circular_of sheet.now v }
     ensures { IfOk result (λ t. t ≡ ties_of sheet.now v) }
 {
     let codes = codes(alloc, inputs)?;
     let vars = variables(alloc, inputs)?;
     Ok(Ties {
-        is_duplicate: is_duplicate(sheet, v),
+        is_duplicate,
         is_circular,
         inputs: codes,
         direct: vars,
@@ -145,10 +165,12 @@ fn tied_all(
     alloc: Global,
     sheet: &Sheet,
     all: &[Items<Input>],
+    duplicates: &[bool],
     circular: &[bool],
 ) -> Result<Vec<Ties>, AllocError>
     requires few { length all.now ≤ 1024 }
     requires inputs { all.now ≡ all_inputs sheet.now }
+    requires duplicates { duplicates.now ≡ map (duplicate sheet.now) (numbers sheet.now.rows) }
     requires circular { IsMarks (graph_of sheet.now) (needs_itself (graph_of sheet.now)) circular.now }
     ensures { IfOk result (λ ties. ties.items ≡ ties_of_all sheet.now) }
 {
@@ -158,6 +180,7 @@ fn tied_all(
             alloc,
             sheet,
             all[i].as_slice(),
+            duplicates[i],
             circular[i + 1],
             i as u32 + 1,
         )?;
@@ -178,10 +201,11 @@ pub fn tie(alloc: Global, sheet: &Sheet) -> Result<AllTies, AllocError>
     ensures ties { IfOk result (λ t. t.ties.items ≡ ties_of_all sheet.now) }
     ensures graph { IfOk result (λ t. t.graph ≡ graph_of sheet.now) }
 {
-    let all = inputs_of_all(alloc, sheet)?;
+    let duplicates = duplicates(alloc, sheet)?;
+    let all = inputs_of_all(alloc, sheet, &duplicates)?;
     let graph = graph_by_inputs(alloc, &all)?;
     let circular = graph.on_cycle()?;
-    let ties = tied_all(alloc, sheet, &all, &circular)?;
+    let ties = tied_all(alloc, sheet, &all, &duplicates, &circular)?;
     Ok(AllTies { ties, graph })
 }
 

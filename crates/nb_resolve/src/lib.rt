@@ -8,5 +8,5 @@ mod resolution;
 mod tests;
 
 pub use input::Input;
-pub use names::{inputs, is_duplicate, resolve, variables};
+pub use names::{inputs, inputs_where, is_duplicate, resolve, variables};
 pub use resolution::Resolution;

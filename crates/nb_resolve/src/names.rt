@@ -59,25 +59,26 @@ fn builtin(builtins: &Pairs<Value>, name: &str) -> Option<u32>
     None
 }
 
-/// What was found, or the builtin at this place.
-fn or_built_in(at: Option<u32>, found: Resolution) -> Resolution
-    ensures { result ≡ or_builtin at found }
+/// The builtin at a place, if there is one.
+fn built_in(at: Option<u32>) -> Resolution
+    ensures { result ≡ or_builtin at Resolution.Missing }
 {
-    match (found, at) {
-        (Resolution::Missing, Some(b)) => Resolution::Builtin(b),
-        (found, _) => found,
+    match at {
+        Some(b) => Resolution::Builtin(b),
+        None => Resolution::Missing,
     }
 }
 
 /// What a name stands for in a module: `Twice` where two or more of its variables have it, the one that has it, the
 /// builtin of that name, or `Missing`. In a module that isn't there only builtins have names. It takes no memory, and
-/// costs a scan over variables and builtins.
+/// costs a scan over the variables, and one over the builtins where none of them has the name.
 pub fn resolve(sheet: &Sheet, within: u32, name: &str) -> Resolution
     ensures { result ≡ resolve_of sheet.now within name.now }
 {
-    let found = by_variables(sheet.rows(), within, name);
-    let at = builtin(sheet.builtins(), name);
-    or_built_in(at, found)
+    match by_variables(sheet.rows(), within, name) {
+        Resolution::Missing => built_in(builtin(sheet.builtins(), name)),
+        found => found,
+    }
 }
 
 /// Whether two rows or more have a row's module and name.
@@ -167,10 +168,16 @@ fn inputs_of_body(
 }
 
 /// The inputs of a row, none for a duplicate.
-fn inputs_of_row(alloc: Global, sheet: &Sheet, row: &VarRow) -> Result<Vec<Input>, AllocError>
+fn inputs_of_row(
+    alloc: Global,
+    sheet: &Sheet,
+    row: &VarRow,
+    is_duplicate: bool,
+) -> Result<Vec<Input>, AllocError>
+    requires { is_duplicate ≡ is_duplicate_row sheet.now row.now }
     ensures { IfOk result (λ inputs. inputs.items ≡ row_inputs sheet.now row.now) }
 {
-    if is_duplicate_in(sheet, row) {
+    if is_duplicate {
         return Ok(Vec::new(alloc));
     }
     let found = inputs_of_body(alloc, sheet, row.module, &row.body)?;
@@ -184,10 +191,23 @@ fn inputs_of_row(alloc: Global, sheet: &Sheet, row: &VarRow) -> Result<Vec<Input
 pub fn inputs(alloc: Global, sheet: &Sheet, var: u32) -> Result<Vec<Input>, AllocError>
     ensures { IfOk result (λ inputs. inputs.items ≡ inputs_of sheet.now var) }
 {
+    inputs_where(alloc, sheet, var, is_duplicate(sheet, var))
+}
+
+/// The same inputs, for a caller that knows already whether the variable is a duplicate. It saves the scan for that.
+pub fn inputs_where(
+    alloc: Global,
+    sheet: &Sheet,
+    var: u32,
+    is_duplicate: bool,
+) -> Result<Vec<Input>, AllocError>
+    requires { is_duplicate ≡ duplicate sheet.now var }
+    ensures { IfOk result (λ inputs. inputs.items ≡ inputs_of sheet.now var) }
+{
     match sheet.variable(var) {
         None => Ok(Vec::new(alloc)),
         Some(row) => {
-            let found = inputs_of_row(alloc, sheet, row)?;
+            let found = inputs_of_row(alloc, sheet, row, is_duplicate)?;
             Ok(found)
         }
     }

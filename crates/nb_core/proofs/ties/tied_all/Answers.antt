@@ -1,13 +1,27 @@
-use Rattle.std.proofs.Common.{◌≡◌, ◌<◌, ◌≤◌, ◌∙◌, ◌+◌, sym, ap, map, length, arith, List, ℕ}
+use Rattle.std.proofs.Common.{◌≡◌, ◌<◌, ◌≤◌, ◌∙◌, ◌+◌, sym, ap, map, length, arith, List, Bool, ℕ}
 use Rattle.std.specs.List.{range_with_len}
+use Rattle.std.proofs.lemmas.List.FromFn.{length-map-range_with_len}
+use Rattle.nb_resolve.specs.Names.{duplicate}
 use Rattle.nb_core.specs.State.{Ties, ties_of}
-use Rattle.nb_core.proofs.Tables.{inputs_at, length_inputs, circular_at, table_push}
+use Rattle.nb_core.proofs.Tables.{duplicate_at, inputs_at, length_inputs, circular_at, table_push}
 use Rattle.nb_core.proofs.ties.tied_all.Goals as goal
 
 pub tied-requires-clause-inputs : goal.tied-requires-clause-inputs
 tied-requires-clause-inputs c =
     let inside : c.loop-i.i < length c.args.all.now = omega arith in
     c.as_slice.ensures ∙ inputs_at c.args.sheet.now c.args.all.now c.loop-i.i c.index-all-i.result c.requires.inputs inside c.index-all-i.is
+
+pub tied-requires-clause-duplicate : goal.tied-requires-clause-duplicate
+tied-requires-clause-duplicate c =
+    let many : length c.args.all.now ≡ length c.args.sheet.now.rows = length_inputs c.args.sheet.now c.args.all.now c.requires.inputs in
+    let inside : c.loop-i.i < length c.args.sheet.now.rows = omega (arith, many) in
+    duplicate_at c.args.sheet.now c.args.duplicates.now c.loop-i.i c.requires.duplicates inside
+
+pub bounds-duplicates-i : goal.bounds-duplicates-i
+bounds-duplicates-i c =
+    let many : length c.args.all.now ≡ length c.args.sheet.now.rows = length_inputs c.args.sheet.now c.args.all.now c.requires.inputs in
+    let all : length c.args.duplicates.now ≡ length c.args.sheet.now.rows = ap (λ (l : List Bool). length l) c.requires.duplicates ∙ length-map-range_with_len (duplicate c.args.sheet.now) 1 (length c.args.sheet.now.rows) in
+    omega (arith, many, all)
 
 pub tied-requires-clause-circular : goal.tied-requires-clause-circular
 tied-requires-clause-circular c =
