@@ -6,13 +6,13 @@ use Rattle.nb_core.proofs.ties.tie.Goals as goal
 
 pub graph_by_inputs-requires-clause-few : goal.graph_by_inputs-requires-clause-few
 graph_by_inputs-requires-clause-few c =
-    let same : length c.deref.result.now ≡ length c.in_ok-all.all.items = ap (λ (l : List (List (Name × Resolution))). length l) c.deref.ensures.value in
+    let same : length c.deref-2.result.now ≡ length c.in_ok-all.all.items = ap (λ (l : List (List (Name × Resolution))). length l) c.deref-2.ensures.value in
     omega (arith, same, c.in_ok-all.ensures.few)
 
 pub graph_by_inputs-requires-clause-within : goal.graph_by_inputs-requires-clause-within
-graph_by_inputs-requires-clause-within c = inputs_within c.args.sheet.now c.deref.result.now (c.deref.ensures.value ∙ c.in_ok-all.ensures.inputs)
+graph_by_inputs-requires-clause-within c = inputs_within c.args.sheet.now c.deref-2.result.now (c.deref-2.ensures.value ∙ c.in_ok-all.ensures.inputs)
 
 pub tied_all-requires-clause-few : goal.tied_all-requires-clause-few
 tied_all-requires-clause-few c =
-    let same : length c.deref-2.result.now ≡ length c.in_ok-all.all.items = ap (λ (l : List (List (Name × Resolution))). length l) c.deref-2.ensures.value in
+    let same : length c.deref-3.result.now ≡ length c.in_ok-all.all.items = ap (λ (l : List (List (Name × Resolution))). length l) c.deref-3.ensures.value in
     omega (arith, same, c.in_ok-all.ensures.few)
