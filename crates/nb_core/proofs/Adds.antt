@@ -1,5 +1,5 @@
 -- The event of an added observed cell: when it is refused, and what it leaves.
-use Rattle.std.proofs.Common.{inl, inr, ℕ, zero, suc, ◌≡◌, ◌+◌, ◌-◌, ◌<◌, ◌≤◌, refl, sym, ◌∙◌, ap, subst, Bool, true, false, cond, ◌⊎◌, ltb, leb, List, [], ◌∷◌, ◌++◌, length, length-append, replicate, arith, Option, Some, None, option_map}
+use Rattle.std.proofs.Common.{inl, inr, ℕ, ◌≡◌, ◌+◌, ◌-◌, ◌<◌, ◌≤◌, refl, sym, ◌∙◌, ap, subst, Bool, true, List, [], ◌∷◌, ◌++◌, length, length-append, replicate, arith, Option, Some, None, option_map}
 use Rattle.std.proofs.lemmas.Bool.{cases_lt, le-ltb, lt-ltb, le-leb}
 use Rattle.std.proofs.lemmas.Option.{none-some}
 use Rattle.nb_value.specs.declared.value.Value.{Value}
@@ -19,12 +19,12 @@ use Rattle.nb_sheet.specs.declared.refused.Refused.{Refused as SheetRefused}
 use Rattle.nb_sheet.specs.declared.refused.Refused.TheVariants.{TooManyVariables}
 use Rattle.nb_log.specs.declared.entry.Entry.{Entry}
 use Rattle.nb_log.specs.declared.entry.Entry.TheVariants.{Edit, Refused}
-use Rattle.nb_sheet.specs.Lists.{nth, from_option, or_else}
+use Rattle.nb_sheet.specs.Lists.{from_option, or_else}
 use Rattle.nb_history.specs.Reading.{Reading, Start}
-use Rattle.nb_history.specs.Log.{after, reading, nothing_yet, Fits, LegalFrom, IsQuiet, admit, when}
+use Rattle.nb_history.specs.Log.{reading, nothing_yet, IsQuiet, admit, when}
 use Rattle.nb_history.specs.Serial.{closing}
 use Rattle.nb_history.proofs.Histories.{legal_append}
-use Rattle.nb_core.specs.State.{sheet_of, reading_of, is_cell, row_of, IsPlain, IsBare, IsState, IsLocal, IsQuietLog}
+use Rattle.nb_core.specs.State.{sheet_of, reading_of, is_cell, row_of, IsBare, IsState, IsLocal, IsQuietLog}
 use Rattle.nb_core.proofs.States.{of_log, stands_after}
 use Rattle.nb_core.proofs.Locals.{nth_push}
 use Rattle.nb_core.proofs.LocalAdds.{local_added, local_later}

@@ -1,7 +1,7 @@
 -- A variable starts, and what is known where none may.
-use Rattle.std.proofs.Common.{inl, inr, ℕ, zero, suc, ◌≡◌, ◌≢◌, ◌+◌, ◌-◌, ◌<◌, ◌≤◌, refl, sym, ◌∙◌, ap, subst, Bool, true, false, cond, not, ◌&&◌, ◌||◌, ◌⊎◌, ltb, List, [], ◌∷◌, ◌++◌, append_assoc, append-nil, map, length, length-append, arith, Option, Some, None, is_some}
+use Rattle.std.proofs.Common.{inl, inr, ℕ, ◌≡◌, ◌+◌, refl, sym, ◌∙◌, ap, subst, Bool, true, false, cond, not, ◌&&◌, ◌||◌, List, [], ◌∷◌, ◌++◌, length, length-append, arith, Option, Some, None, is_some}
 use Rattle.std.specs.List.{list_any}
-use Rattle.std.proofs.lemmas.Bool.{cases_Bool, cases_eq, false≢true, and_left, lt-ltb, le-ltb}
+use Rattle.std.proofs.lemmas.Bool.{cases_eq, and_left}
 use Rattle.std.proofs.lemmas.Option.{same_Some}
 use Rattle.nb_value.specs.declared.value.Value.{Value}
 use Rattle.nb_value.specs.declared.pairs.Field.{Field}
@@ -17,11 +17,11 @@ use Rattle.nb_resolve.specs.Names.{direct}
 use Rattle.nb_history.specs.Reading.{Reading, Start, Footing, start_of, is_idle, owed}
 use Rattle.nb_history.specs.Rules.{wanted, leaving, due, is_behind, may_start, footing}
 use Rattle.nb_history.specs.Log.{after, new_start, reading, nothing_yet, LegalFrom, IsQuiet}
-use Rattle.nb_history.specs.Serial.{least_var, closing, Closes}
-use Rattle.nb_graph.proofs.Reaches.{has_head, has_tail, needed_within, passing, passing_more, Same}
+use Rattle.nb_history.specs.Serial.{least_var, closing}
+use Rattle.nb_graph.proofs.Reaches.{has_head, has_tail, needed_within}
 use Rattle.nb_history.proofs.Direct.{direct_within}
-use Rattle.nb_history.proofs.Closing.{range_has, number_has, has_number, nth_put_same, nth_put_other, length_put, nth_as_long, first_some, closing_pending, closing_none, quiet_from_none, Settled, settled_pending, is_since, may_start_cases}
-use Rattle.nb_history.proofs.Histories.{read_append, legal_append, ClosesTo, closes_push, closes_end}
+use Rattle.nb_history.proofs.Closing.{number_has, has_number, nth_put_same, nth_put_other, length_put, nth_as_long, first_some, closing_pending, closing_none, quiet_from_none}
+use Rattle.nb_history.proofs.Histories.{legal_append}
 use Rattle.nb_core.specs.State.{at as at_rows, sheet_of, reading_of, may_begin, begun, is_cell, IsPlain, IsBare, IsState, IsLocal}
 use Rattle.nb_core.proofs.Cells.{cell_is_some}
 use Rattle.nb_core.proofs.States.{of_log, after_log, stands_after}

@@ -1,9 +1,7 @@
 -- What the core's calls tell, by what it keeps.
-use Rattle.std.proofs.Common.{ℕ, ◌≡◌, ◌+◌, ◌<◌, ◌≤◌, refl, sym, ◌∙◌, ap, subst, Bool, true, false, not, List, [], ◌∷◌, ◌++◌, map, length, arith, Option, Some, None, inl, inr}
-use Rattle.std.proofs.lemmas.Option.{same_Some}
+use Rattle.std.proofs.Common.{ℕ, ◌≡◌, ◌<◌, ◌≤◌, sym, ◌∙◌, ap, subst, Bool, true, false, List, [], ◌∷◌, ◌++◌, length, arith, Option, Some}
 use Rattle.nb_value.specs.declared.value.Value.{Value}
 use Rattle.nb_value.specs.declared.pairs.Field.{Field}
-use Rattle.nb_value.specs.declared.outcome.Answer.{Answer}
 use Rattle.nb_value.specs.declared.outcome.Outcome.{Outcome}
 use Rattle.nb_eval.specs.Work.{IsOf}
 use Rattle.nb_eval.specs.declared.work.Work.{Work}
@@ -15,14 +13,13 @@ use Rattle.nb_history.specs.Lists.{first_where}
 use Rattle.nb_resolve.specs.Names.{duplicate}
 use Rattle.nb_history.specs.Needs.{circular}
 use Rattle.nb_history.specs.Reading.{Reading, Start, start_of, is_idle, shown}
-use Rattle.nb_history.specs.Rules.{ready, wanted, next, answers_of, pulls_of, scratch, body_of}
+use Rattle.nb_history.specs.Rules.{ready, wanted, next, answers_of, pulls_of, scratch}
 use Rattle.nb_history.specs.Log.{reading, Rests}
 use Rattle.nb_history.specs.Serial.{least_var}
 use Rattle.nb_history.specs.History.{History, standing, IsClosedHistory}
 use Rattle.std.specs.List.{range_with_len}
-use Rattle.nb_core.specs.State.{at as at_rows, sheet_of, shown_in, ready_in, started_in, number_in, marks_in, next_outcome, shown_entry, showing_start, is_cell, IsCore, IsBare, ShowsAt}
-use Rattle.nb_core.specs.Core.{Gains, running, start_number, work_of, done_outcome, shown_outcome, shows_idle, ShownIs}
-use Rattle.nb_core.specs.declared.placed.Shown.{Shown as ShownNow}
+use Rattle.nb_core.specs.State.{at as at_rows, sheet_of, shown_in, ready_in, started_in, number_in, marks_in, next_outcome, shown_entry, showing_start, IsCore, ShowsAt}
+use Rattle.nb_core.specs.Core.{Gains, running, start_number, work_of, done_outcome}
 use Rattle.nb_core.proofs.States.{of_log}
 use Rattle.nb_core.proofs.Kept.{ready_kept, wanted_started, same_duplicate, same_circular}
 use Rattle.nb_core.proofs.Completes.{cell_body}

@@ -1,21 +1,15 @@
 -- The evaluation of a plain cell ends with a value or an error, and cleans up nothing.
-use Rattle.std.proofs.Common.{inl, inr, ℕ, ◌≡◌, refl, sym, ◌∙◌, ap, subst, Bool, true, false, List, [], ◌∷◌, Option, Some, None, is_some}
+use Rattle.std.proofs.Common.{inl, inr, ℕ, ◌≡◌, refl, sym, ◌∙◌, ap, Bool, true, false, List, [], Option, Some, None, is_some}
 use Rattle.std.proofs.lemmas.Bool.{false≢true}
 use Rattle.nb_value.specs.declared.value.Value.{Value}
 use Rattle.nb_value.specs.declared.pairs.Field.{Field}
 use Rattle.nb_value.specs.declared.outcome.Answer.{Answer}
-use Rattle.nb_value.specs.declared.outcome.CellError.{CellError}
-use Rattle.nb_value.specs.declared.outcome.Outcome.{Outcome}
-use Rattle.nb_syntax.specs.Plain.{is_plain}
 use Rattle.nb_syntax.proofs.PlainLemmas.{plain_yields}
-use Rattle.nb_syntax.specs.declared.tree.Cell.{Cell}
 use Rattle.nb_eval.specs.Evaluation.{Evaluated}
 use Rattle.nb_eval.specs.declared.given.Ending.{Ending}
-use Rattle.nb_eval.specs.declared.given.Ending.TheVariants.{Done, Failed}
 use Rattle.nb_eval.proofs.Endings.{EndsWell, ends, no_cleanups}
 use Rattle.nb_sheet.specs.declared.row.BodyOf.{BodyOf}
 use Rattle.nb_sheet.specs.declared.row.BodyOf.TheVariants.{Cell as CellBody, Import as ImportBody}
-use Rattle.nb_log.specs.declared.entry.Entry.{Entry}
 use Rattle.nb_history.specs.Rules.{run_body, generates, entry_of, outcome_of}
 use Rattle.nb_core.specs.State.{is_cell, ending_outcome, shown_entry}
 

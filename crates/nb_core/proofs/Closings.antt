@@ -1,11 +1,9 @@
 -- Variables start one after another, each once, until none may.
-use Rattle.std.proofs.Common.{inl, inr, ℕ, zero, suc, ◌≡◌, ◌≢◌, ◌+◌, ◌-◌, ◌<◌, ◌≤◌, refl, sym, ◌∙◌, ap, subst, Bool, true, false, cond, not, ◌&&◌, ◌||◌, ◌⊎◌, ltb, List, [], ◌∷◌, ◌++◌, append_assoc, append-nil, map, length, length-append, arith, Option, Some, None, is_some}
-use Rattle.std.specs.List.{list_any}
-use Rattle.std.proofs.lemmas.Bool.{cases_Bool, cases_eq, false≢true, and_left, lt-ltb, le-ltb}
-use Rattle.std.proofs.lemmas.Option.{same_Some}
+use Rattle.std.proofs.Common.{inl, inr, ℕ, ◌≡◌, ◌+◌, ◌<◌, ◌≤◌, refl, sym, ◌∙◌, ap, subst, Bool, true, false, not, ◌⊎◌, ltb, List, [], ◌∷◌, ◌++◌, append_assoc, append-nil, length, length-append, arith, Option, Some, None}
+use Rattle.std.proofs.lemmas.Bool.{cases_Bool, cases_eq, false≢true, lt-ltb, le-ltb}
+use Rattle.std.proofs.lemmas.List.FromFn.{length-range_with_len}
 use Rattle.nb_value.specs.declared.value.Value.{Value}
 use Rattle.nb_value.specs.declared.pairs.Field.{Field}
-use Rattle.nb_log.specs.Printing.{entry_size}
 use Rattle.nb_sheet.specs.declared.row.VarRow.{VarRow}
 use Rattle.nb_log.specs.declared.entry.Entry.{Entry}
 use Rattle.nb_log.specs.declared.entry.Entry.TheVariants.{Pending}
@@ -13,26 +11,25 @@ use Rattle.nb_graph.specs.Needs.{has}
 use Rattle.nb_sheet.specs.Sheet.{Sheet}
 use Rattle.nb_sheet.specs.Lists.{nth, numbers, from_option, option_then}
 use Rattle.nb_history.specs.Lists.{first_where}
-use Rattle.nb_history.specs.Needs.{circular, needed, is_defined, is_observed, is_root, needs}
-use Rattle.nb_resolve.specs.Names.{direct}
-use Rattle.nb_history.specs.Reading.{Reading, Start, Footing, start_of, is_idle, owed}
-use Rattle.nb_history.specs.Rules.{wanted, leaving, due, is_behind, may_start, footing}
-use Rattle.nb_history.specs.Log.{after, new_start, reading, nothing_yet, LegalFrom, IsQuiet}
-use Rattle.nb_history.specs.Serial.{least_var, closing, Closes}
-use Rattle.nb_graph.proofs.Reaches.{has_head, has_tail, needed_within, passing, passing_more, Same}
-use Rattle.nb_history.proofs.Direct.{direct_within}
-use Rattle.nb_history.proofs.Closing.{range_has, number_has, has_number, nth_put_same, nth_put_other, length_put, nth_as_long, first_some, closing_pending, closing_none, quiet_from_none, Settled, settled_pending, is_since, may_start_cases}
-use Rattle.nb_history.proofs.Histories.{read_append, legal_append, ClosesTo, closes_push, closes_end}
-use Rattle.nb_core.specs.State.{at as at_rows, sheet_of, reading_of, may_begin, begun, is_cell, IsPlain, IsBare, IsState, IsLocal, IsClosed}
-use Rattle.nb_core.proofs.Cells.{cell_is_some}
-use Rattle.nb_core.proofs.States.{of_log, after_log, stands_after}
-use Rattle.nb_core.proofs.Locals.{local_begun}
+use Rattle.nb_history.specs.Reading.{Reading, Start}
+use Rattle.nb_history.specs.Rules.{due, footing}
+use Rattle.nb_history.specs.Log.{new_start, reading, nothing_yet}
+use Rattle.nb_history.specs.Serial.{closing, Closes}
+use Rattle.nb_graph.proofs.Reaches.{passing, passing_le, passing_more, Same}
+use Rattle.nb_history.proofs.Closing.{range_has, nth_put_same, nth_put_other, first_some, Settled, settled_pending, is_since, may_start_cases}
+use Rattle.nb_history.proofs.Histories.{read_append, ClosesTo, closes_push, closes_end}
+use Rattle.nb_core.specs.State.{at as at_rows, reading_of, may_begin, begun, IsBare, IsState, IsClosed}
+use Rattle.nb_core.proofs.States.{of_log}
 use Rattle.nb_core.proofs.Begins.{start_there, may_v, next_closing, after_begin, state_begun, state_quiet}
 
 -- ---- each starts at most once: those without a start since place p become fewer
 
 abbrev pub unstarted : ℕ → List VarRow → List (Option Start) → ℕ
 unstarted p rows starts = passing (λ v. not (is_since p (at_rows [] rows starts) v)) (numbers rows)
+
+pub unstarted_most : (p : ℕ) (rows : List VarRow) (starts : List (Option Start)) → unstarted p rows starts ≤ length rows
+unstarted_most p rows starts =
+    omega (arith, passing_le (λ v. not (is_since p (at_rows [] rows starts) v)) (numbers rows), length-range_with_len 1 (length rows))
 
 pub fewer_unstarted : (p : ℕ) (builtins : List (Field Value)) (rows : List VarRow) (starts : List (Option Start)) (log : List Entry) (state : IsState builtins rows starts log) (v : ℕ)
     (first : first_where (may_begin (at_rows builtins rows starts)) (numbers rows) ≡ Some v)

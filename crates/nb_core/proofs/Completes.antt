@@ -1,8 +1,8 @@
 -- What a ready variable shows next is its next entry, and by it nothing becomes due.
-use Rattle.std.proofs.Common.{inl, inr, ℕ, zero, suc, ◌≡◌, ◌≢◌, ◌+◌, ◌<◌, ◌≤◌, refl, sym, ◌∙◌, ap, subst, Bool, true, false, cond, not, ◌&&◌, ◌||◌, ◌⊎◌, List, [], ◌∷◌, ◌++◌, map, length, length-append, arith, Option, Some, None, is_some}
+use Rattle.std.proofs.Common.{inl, inr, ℕ, ◌≡◌, ◌+◌, refl, sym, ◌∙◌, ap, subst, Bool, true, false, cond, not, ◌&&◌, ◌||◌, List, [], ◌∷◌, ◌++◌, length, length-append, arith, Option, Some, None, is_some}
 use Rattle.std.specs.Prelude.{nat_le, ◌==◌}
 use Rattle.std.specs.List.{list_any, list_all}
-use Rattle.std.proofs.lemmas.Bool.{and_parts, cases_Bool, cases_eq, false≢true, and_right, and_left}
+use Rattle.std.proofs.lemmas.Bool.{and_parts, cases_eq, false≢true, and_right, and_left}
 use Rattle.std.proofs.lemmas.Option.{same_Some}
 use Rattle.nb_value.specs.declared.value.Value.{Value}
 use Rattle.nb_value.specs.declared.pairs.Field.{Field}
@@ -12,17 +12,15 @@ use Rattle.nb_value.specs.declared.outcome.Outcome.TheVariants.{Value as Shows, 
 use Rattle.nb_eval.specs.Evaluation.{Evaluated}
 use Rattle.nb_log.specs.Printing.{entry_size}
 use Rattle.nb_sheet.specs.declared.row.VarRow.{VarRow}
-use Rattle.nb_sheet.specs.declared.row.BodyOf.{BodyOf}
 use Rattle.nb_log.specs.declared.entry.Entry.{Entry}
 use Rattle.nb_log.specs.declared.entry.Entry.TheVariants.{Fulfilled, Rejected}
-use Rattle.nb_graph.specs.Needs.{has}
 use Rattle.nb_sheet.specs.Lists.{nth, put, numbers, from_option, option_then}
 use Rattle.nb_history.specs.Lists.{first_where}
 use Rattle.nb_resolve.specs.Names.{inputs, direct, duplicate}
 use Rattle.nb_history.specs.Needs.{circular, needed}
 use Rattle.nb_history.specs.Reading.{Reading, Start, Footing, start_of, shown, renewal}
 use Rattle.nb_history.specs.Rules.{values_given, deciding_error, evaluated, evaluation, next, body_of, generates, answers_of, pulls_of, footing, is_behind, is_running, ready}
-use Rattle.nb_history.specs.Log.{after, showing, cleanups_now, ends_at_once, is_done, reading, nothing_yet, Fits, IsNext, IsQuiet, LegalFrom}
+use Rattle.nb_history.specs.Log.{after, showing, cleanups_now, ends_at_once, is_done, reading, nothing_yet, Fits, IsNext, IsQuiet}
 use Rattle.nb_history.proofs.Closing.{nth_put_same, nth_put_other, length_put, footing_agree, behind_by}
 use Rattle.nb_history.proofs.Histories.{legal_append}
 use Rattle.nb_core.specs.State.{at as at_rows, sheet_of, reading_of, shown_in, is_cell, ending_outcome, next_outcome, shown_entry, showing_start, IsPlain, IsBare, IsState, IsLocal, may_begin}

@@ -1,5 +1,5 @@
 -- What the core's calls leave: a core again, and the entries that the log gained.
-use Rattle.std.proofs.Common.{inl, inr, ℕ, zero, suc, ◌≡◌, ◌+◌, ◌<◌, ◌≤◌, refl, sym, ◌∙◌, ap, subst, Bool, true, false, cond, ◌&&◌, ◌||◌, ◌⊎◌, List, [], ◌∷◌, ◌++◌, append_assoc, map, length, length-append, arith, Option, Some, None, is_some}
+use Rattle.std.proofs.Common.{inl, inr, ℕ, zero, suc, ◌≡◌, ◌+◌, ◌<◌, ◌≤◌, refl, sym, ◌∙◌, ap, subst, Bool, true, false, ◌||◌, ◌⊎◌, List, [], ◌∷◌, ◌++◌, append_assoc, length, length-append, arith, Option, Some, None, is_some}
 use Rattle.std.specs.List.{list_all, filter}
 use Rattle.std.proofs.lemmas.Bool.{false≢true, and_parts, cases_eq}
 use Rattle.nb_value.specs.declared.value.Value.{Value}
@@ -22,16 +22,16 @@ use Rattle.nb_history.specs.Reading.{Reading, Start, shown}
 use Rattle.nb_history.specs.Rules.{ready, is_running, next}
 use Rattle.nb_history.specs.Log.{reading, nothing_yet, after, admit}
 use Rattle.nb_history.specs.Serial.{least_var, closing, Closes}
-use Rattle.nb_history.specs.History.{History, standing, IsClosedHistory}
+use Rattle.nb_history.specs.History.{History, IsClosedHistory}
 use Rattle.nb_history.proofs.Closing.{nth_as_long, has_number, nth_put_same, nth_put_other}
 use Rattle.nb_history.proofs.Histories.{read_append}
 use Rattle.nb_graph.proofs.Reaches.{passing, passing_more, Same}
-use Rattle.nb_core.specs.State.{at as at_rows, sheet_of, may_begin, row_of, next_outcome, shown_entry, showing_start, ready_in, IsState, IsCore, IsClosed}
+use Rattle.nb_core.specs.State.{at as at_rows, may_begin, row_of, next_outcome, shown_entry, showing_start, ready_in, IsState, IsCore, IsClosed}
 use Rattle.nb_core.specs.Core.{Gains, running}
 use Rattle.nb_core.proofs.States.{of_log}
 use Rattle.nb_core.proofs.Begins.{state_quiet, begins_none, first_agree}
 use Rattle.nb_core.proofs.Closings.{inside}
-use Rattle.nb_core.proofs.Adds.{adding, state_refused, quiet_refused, state_added}
+use Rattle.nb_core.proofs.Adds.{adding, state_refused, quiet_refused}
 use Rattle.nb_core.proofs.Completes.{entry_next, state_shown, still_none}
 use Rattle.nb_core.proofs.Kept.{ready_kept}
 

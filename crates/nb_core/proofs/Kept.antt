@@ -1,8 +1,7 @@
 -- Between two calls each start's kept footing is the one of now, so what is ready and wanted can be read off the starts.
-use Rattle.std.proofs.Common.{inl, inr, ℕ, ◌≡◌, ◌+◌, ◌-◌, ◌*◌, ◌/◌, ◌%◌, ◌<◌, ◌≤◌, refl, sym, ◌∙◌, ap, subst, Bool, true, false, cond, not, ◌&&◌, ◌||◌, ◌⊎◌, eqb, List, [], ◌∷◌, map, length, arith, Option, Some, None, is_some}
-use Rattle.std.specs.Prelude.{nat_le}
+use Rattle.std.proofs.Common.{ℕ, ◌≡◌, ◌+◌, ◌-◌, ◌/◌, ◌%◌, refl, sym, ◌∙◌, ap, subst, Bool, true, false, not, ◌&&◌, ◌||◌, eqb, List, [], ◌∷◌, map, arith, Option, Some, None, is_some}
 use Rattle.std.specs.List.{list_all, filter_map}
-use Rattle.std.proofs.lemmas.Bool.{cases_Bool, false≢true, eq-eqb, le-leb, false_from_ne_true, eqb-true}
+use Rattle.std.proofs.lemmas.Bool.{false≢true, eq-eqb, le-leb, false_from_ne_true, eqb-true}
 use Rattle.nb_value.specs.declared.value.Value.{Value}
 use Rattle.nb_value.specs.declared.pairs.Field.{Field}
 use Rattle.nb_value.specs.declared.outcome.Outcome.{Outcome}
@@ -11,12 +10,12 @@ use Rattle.nb_log.specs.declared.entry.Entry.{Entry}
 use Rattle.nb_sheet.specs.Lists.{Name, nth, from_option, option_then}
 use Rattle.nb_resolve.specs.Names.{inputs, direct, duplicate, variable_of}
 use Rattle.nb_history.specs.Needs.{circular}
-use Rattle.nb_history.specs.Reading.{Reading, Start, Footing, start_of, is_idle, shown}
-use Rattle.nb_history.specs.Rules.{wanted, is_behind, is_running, ready, footing, same_footing, input_code}
+use Rattle.nb_history.specs.Reading.{Reading, Start, Footing, start_of, is_idle}
+use Rattle.nb_history.specs.Rules.{wanted, is_behind, ready, footing, same_footing, input_code}
 use Rattle.nb_history.specs.Log.{reading, IsQuiet}
 use Rattle.nb_resolve.specs.declared.resolution.Resolution.{Resolution}
 use Rattle.nb_resolve.specs.declared.resolution.Resolution.TheVariants.{Var, Builtin, Twice, Missing}
-use Rattle.nb_core.specs.State.{at as at_rows, sheet_of, shown_in, is_var_code, code_shows, ready_start, ready_in, started_in, IsState, IsCore}
+use Rattle.nb_core.specs.State.{at as at_rows, sheet_of, shown_in, is_var_code, code_shows, ready_start, ready_in, started_in, IsState}
 use Rattle.nb_core.proofs.States.{of_log}
 use Rattle.nb_core.proofs.LocalAdds.{not_behind}
 use Rattle.nb_core.proofs.Begins.{calm_state}

@@ -11,6 +11,7 @@ pub mod Kept
 pub mod LocalAdds
 pub mod Locals
 pub mod Rest
+pub mod Restores
 pub mod Runs
 pub mod Scans
 pub mod Sizes

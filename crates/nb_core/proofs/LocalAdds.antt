@@ -1,34 +1,32 @@
 -- Local values after a cell is added, or after an entry that changes nothing else.
-use Rattle.std.proofs.Common.{inl, inr, ℕ, zero, suc, ◌≡◌, ◌≢◌, ◌+◌, ◌<◌, ◌≤◌, refl, sym, ◌∙◌, ap, subst, Bool, true, false, cond, not, ◌&&◌, ◌||◌, ◌⊎◌, List, [], ◌∷◌, ◌++◌, map, length, arith, Option, Some, None, is_some}
+use Rattle.std.proofs.Common.{inl, inr, ℕ, zero, suc, ◌≡◌, ◌+◌, ◌≤◌, refl, sym, ◌∙◌, ap, Bool, true, false, cond, not, List, [], ◌∷◌, ◌++◌, map, length, arith, Option, Some, None, is_some}
 use Rattle.std.specs.Prelude.{slice_get}
-use Rattle.std.specs.List.{list_any, list_all, filter_map}
-use Rattle.std.proofs.lemmas.Bool.{cases_Bool, cases_eq, false≢true, and_parts, or_cases, not-false, false_from_ne_true}
-use Rattle.std.proofs.lemmas.Option.{none-some, same_Some}
+use Rattle.std.specs.List.{list_any, filter_map}
+use Rattle.std.proofs.lemmas.Bool.{false≢true, not-false}
+use Rattle.std.proofs.lemmas.Option.{none-some}
 use Rattle.nb_value.specs.declared.value.Value.{Value}
 use Rattle.nb_value.specs.declared.pairs.Field.{Field}
 use Rattle.nb_value.specs.declared.outcome.CellError.{CellError}
 use Rattle.nb_value.specs.declared.outcome.ErrorKind.TheVariants.{DefinedTwice, Circular}
 use Rattle.nb_value.specs.declared.outcome.Outcome.{Outcome}
-use Rattle.nb_value.specs.declared.outcome.Outcome.TheVariants.{Value as Shows, Error as Fails}
+use Rattle.nb_value.specs.declared.outcome.Outcome.TheVariants.{Error as Fails}
 use Rattle.nb_eval.specs.Evaluation.{Evaluated}
 use Rattle.nb_sheet.specs.declared.row.BodyOf.{BodyOf}
 use Rattle.nb_sheet.specs.declared.row.BodyOf.TheVariants.{Cell as CellBody, Import as ImportBody}
 use Rattle.nb_sheet.specs.declared.row.VarRow.{VarRow}
-use Rattle.nb_sheet.specs.Lists.{Name, nth, put, from_option, option_then, or_else}
+use Rattle.nb_sheet.specs.Lists.{Name, nth, from_option, option_then}
 use Rattle.nb_graph.specs.Needs.{has}
 use Rattle.nb_sheet.specs.Sheet.{Sheet}
-use Rattle.nb_resolve.specs.Names.{inputs, direct, duplicate, resolve, inputs_of_body, inputs_of_row, is_duplicate_row, variable_of}
-use Rattle.nb_history.specs.Needs.{circular, needed}
-use Rattle.nb_history.specs.Reading.{Reading, Start, Footing, start_of, shown, renewal}
-use Rattle.nb_history.specs.Rules.{given, values_given, first_error, marked_error, body_of, generates, run_body, outcome_of, unmarked_value, local_value, footing, is_behind, same_footing, plain_error, name_of, input_code, resolution_code}
-use Rattle.nb_history.specs.Log.{new_start}
+use Rattle.nb_resolve.specs.Names.{inputs, duplicate, resolve, inputs_of_body, inputs_of_row, is_duplicate_row, variable_of}
+use Rattle.nb_history.specs.Needs.{circular}
+use Rattle.nb_history.specs.Reading.{Start, Footing, start_of}
+use Rattle.nb_history.specs.Rules.{given, values_given, first_error, marked_error, body_of, generates, run_body, outcome_of, unmarked_value, footing, is_behind, same_footing, plain_error, name_of, input_code, resolution_code}
 use Rattle.nb_resolve.specs.declared.resolution.Resolution.{Resolution}
-use Rattle.nb_graph.proofs.Reaches.{has_head, has_tail, has_cases}
 use Rattle.nb_history.proofs.Footings.{same_footing_eq, code_eq}
-use Rattle.nb_history.proofs.Closing.{nth_put_same, nth_put_other, nth_as_long, footing_agree, behind_by, needs_direct}
-use Rattle.nb_history.proofs.Scratches.{local_agree, not_circular}
+use Rattle.nb_history.proofs.Closing.{nth_as_long, behind_by}
+use Rattle.nb_history.proofs.Scratches.{local_agree}
 use Rattle.nb_syntax.specs.FreeNames.{free}
-use Rattle.nb_core.specs.State.{at as at_rows, Local, IsLocal, sheet_of, shown_in, renewal_in, begun, is_cell, ending_outcome, next_outcome, showing_start}
+use Rattle.nb_core.specs.State.{at as at_rows, Local, IsLocal, sheet_of, shown_in}
 use Rattle.nb_core.proofs.Locals.{nth_push}
 
 cons_parts : (a b : ℕ) (xs ys : List ℕ) → a ∷ xs ≡ b ∷ ys → (a ≡ b) × (xs ≡ ys)

@@ -1,12 +1,11 @@
 -- At rest every wanted variable shows what evaluating from scratch gives.
-use Rattle.std.proofs.Common.{inl, inr, ℕ, ◌≡◌, refl, sym, ◌∙◌, ap, subst, Bool, true, false, cond, not, ◌&&◌, ◌||◌, List, [], ◌∷◌, map, length, Option, Some, None, is_some}
+use Rattle.std.proofs.Common.{inl, inr, ℕ, ◌≡◌, refl, sym, ◌∙◌, ap, subst, Bool, true, false, cond, not, ◌&&◌, ◌||◌, List, [], ◌∷◌, map, Option, Some, None, is_some}
 use Rattle.std.specs.List.{list_any, list_all}
 use Rattle.std.proofs.lemmas.Bool.{cases_Bool, false≢true, or_parts, and_from, false_from_ne_true}
 use Rattle.nb_value.specs.declared.value.Value.{Value}
 use Rattle.nb_value.specs.declared.pairs.Field.{Field}
 use Rattle.nb_value.specs.declared.outcome.CellError.{CellError}
 use Rattle.nb_value.specs.declared.outcome.ErrorKind.TheVariants.{DefinedTwice, Circular}
-use Rattle.nb_value.specs.declared.outcome.Outcome.{Outcome}
 use Rattle.nb_value.specs.declared.outcome.Outcome.TheVariants.{Error as Fails}
 use Rattle.nb_sheet.specs.declared.row.VarRow.{VarRow}
 use Rattle.nb_log.specs.declared.entry.Entry.{Entry}
@@ -14,10 +13,10 @@ use Rattle.nb_sheet.specs.Lists.{nth, from_option, option_then}
 use Rattle.nb_resolve.specs.Names.{inputs, direct, duplicate}
 use Rattle.nb_history.specs.Needs.{circular}
 use Rattle.nb_history.specs.Reading.{Reading, Start, shown}
-use Rattle.nb_history.specs.Rules.{wanted, is_behind, is_running, ready, given, first_error, evaluated_outcome, waits, unmarked_value, local_value, marked_error, plain_error, name_of, footing, same_footing, scratch}
+use Rattle.nb_history.specs.Rules.{wanted, is_behind, is_running, given, first_error, evaluated_outcome, waits, unmarked_value, local_value, marked_error, plain_error, name_of, footing, same_footing, scratch}
 use Rattle.nb_history.specs.Log.{reading, Rests}
 use Rattle.nb_history.proofs.Scratches.{ShowsLocal, shows_scratch, NamedDefined}
-use Rattle.nb_core.specs.State.{sheet_of, is_cell, IsState}
+use Rattle.nb_core.specs.State.{sheet_of, IsState}
 use Rattle.nb_core.proofs.States.{of_log}
 use Rattle.nb_core.proofs.Cells.{cell_is_some}
 

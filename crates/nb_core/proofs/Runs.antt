@@ -1,5 +1,5 @@
 -- A core that takes each line and then settles keeps the serial history of the lines.
-use Rattle.std.proofs.Common.{ℕ, ◌≡◌, refl, sym, ◌∙◌, ap, subst, true, List, [], ◌∷◌, ◌++◌, append_assoc, append-nil, Option, Some, None}
+use Rattle.std.proofs.Common.{ℕ, ◌≡◌, refl, sym, ◌∙◌, ap, subst, true, List, [], ◌∷◌, ◌++◌, append_assoc, append-nil, Some, None}
 use Rattle.nb_value.specs.declared.value.Value.{Value}
 use Rattle.nb_value.specs.declared.pairs.Field.{Field}
 use Rattle.nb_log.specs.declared.event.Event.{Event}
@@ -11,7 +11,7 @@ use Rattle.nb_history.specs.Log.{reading, nothing_yet, read_from, after, admit}
 use Rattle.nb_history.specs.Serial.{closing, least_var, Todo, SerialFrom, IsSerial}
 use Rattle.nb_history.specs.History.{History, standing}
 use Rattle.nb_history.proofs.Closing.{first_some}
-use Rattle.nb_history.proofs.Histories.{read_append, serial_append, closes_serial, closed_in_the_end, ready_step, line_first, no_step}
+use Rattle.nb_history.proofs.Histories.{read_append, serial_append, closes_serial, ready_step, line_first, no_step}
 use Rattle.nb_core.specs.Core.{Gains, Settles}
 
 -- what the log has gained are the next entries of the serial history, whatever is still to come

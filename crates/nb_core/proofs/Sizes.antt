@@ -1,6 +1,6 @@
 -- A log has no more entries than its size.
 use Rattle.std.proofs.Common.{◌≡◌, ◌≤◌, refl, ◌∙◌, ap, arith, length}
-use Rattle.std.specs.Prelude.{ℕ, ◌+◌, List, [], ◌∷◌, ◌++◌, codes, sum_by}
+use Rattle.std.specs.Prelude.{◌+◌, List, [], ◌∷◌, codes, sum_by}
 use Rattle.std.proofs.lemmas.List.Sums.{sum_by-cons}
 use Rattle.nb_value.specs.declared.value.Value.{Value}
 use Rattle.nb_value.specs.declared.value.Value.TheVariants as V

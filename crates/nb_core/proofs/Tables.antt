@@ -1,25 +1,25 @@
 -- Tables of what each variable's names tie it to, the graph of who needs whom, and marks of it.
-use Rattle.std.proofs.Common.{inl, inr, ℕ, zero, suc, ◌≡◌, ◌+◌, ◌-◌, ◌<◌, ◌≤◌, refl, sym, ◌∙◌, ap, subst, Bool, true, false, ◌&&◌, List, [], ◌∷◌, ◌++◌, map, length, length-append, take, get_or, replicate, arith, Option, Some, None}
+use Rattle.std.proofs.Common.{inl, inr, ℕ, zero, suc, ◌≡◌, ◌+◌, ◌-◌, ◌<◌, ◌≤◌, refl, sym, ◌∙◌, ap, subst, Bool, true, false, ◌&&◌, List, [], ◌∷◌, ◌++◌, map, length, take, get_or, replicate, arith, Option, Some, None}
 use Rattle.std.specs.Prelude.{slice_get}
 use Rattle.std.specs.List.{filter_map, list_any, range_with_len}
 use Rattle.std.proofs.lemmas.List.{length-map, length-take-le, take_more}
-use Rattle.std.proofs.lemmas.List.FromFn.{length-range_with_len, length-map-range_with_len, get_or-map-range_with_len, map-range_with_len_more}
+use Rattle.std.proofs.lemmas.List.FromFn.{length-map-range_with_len, get_or-map-range_with_len, map-range_with_len_more}
 use Rattle.std.proofs.lemmas.Option.{same_Some, none-some, slice_get-get_or}
-use Rattle.std.proofs.lemmas.Bool.{cases_lt, cases_Bool, false≢true, and_parts, false_from_ne_true}
+use Rattle.std.proofs.lemmas.Bool.{cases_lt, false≢true, and_parts, false_from_ne_true}
 use Rattle.nb_value.specs.declared.value.Value.{Value}
 use Rattle.nb_value.specs.declared.pairs.Field.{Field}
 use Rattle.nb_graph.specs.Needs.{has, Needs, at_once, through}
 use Rattle.nb_graph.specs.Graph.{or_nothing, needs_of, with_needs, needs_itself, IsReached, IsMarks}
 use Rattle.nb_graph.proofs.Reaches.{has_any, any_has, needed_sound, needed_complete, needed_within, Needs_trans}
 use Rattle.nb_sheet.specs.declared.row.VarRow.{VarRow}
-use Rattle.nb_sheet.specs.Lists.{Name, nth, numbers, from_option}
+use Rattle.nb_sheet.specs.Lists.{Name, numbers, from_option}
 use Rattle.nb_sheet.specs.Sheet.{Sheet}
 use Rattle.nb_resolve.specs.declared.resolution.Resolution.{Resolution}
 use Rattle.nb_resolve.specs.Names.{direct, duplicate, inputs, inputs_of_row, variable_of}
 use Rattle.nb_history.specs.Needs.{needed, circular}
 use Rattle.nb_history.proofs.Direct.{direct_within}
 use Rattle.nb_history.proofs.Closing.{range_has}
-use Rattle.nb_core.specs.State.{Ties, ties_of, all_ties, sheet_of, all_inputs, graph_by, graph_of, is_marked, IsWithin}
+use Rattle.nb_core.specs.State.{Ties, ties_of, all_ties, sheet_of, all_inputs, graph_of, is_marked, IsWithin}
 
 -- a sheet of one module is told by its builtins and rows
 pub one_sheet : (s : Sheet) → s.modules ≡ 1 → s ≡ sheet_of s.builtins s.rows

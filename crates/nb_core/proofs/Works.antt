@@ -1,26 +1,21 @@
 -- What was done of a ready variable's work gives what the variable shows next.
-use Rattle.std.proofs.Common.{ℕ, ◌≡◌, refl, sym, ◌∙◌, ap, subst, Bool, true, false, List, [], ◌∷◌, Option, Some, None}
+use Rattle.std.proofs.Common.{ℕ, ◌≡◌, ◌∙◌, ap, true, Option, Some, None}
 use Rattle.std.proofs.lemmas.Bool.{false≢true}
-use Rattle.nb_value.specs.declared.value.Value.{Value}
-use Rattle.nb_value.specs.declared.value.Value.TheVariants.{Null}
-use Rattle.nb_value.specs.declared.pairs.Field.{Field}
 use Rattle.nb_value.specs.declared.outcome.CellError.{CellError}
 use Rattle.nb_value.specs.declared.outcome.Outcome.{Outcome}
-use Rattle.nb_value.specs.declared.outcome.Outcome.TheVariants.{Value as Shows, Error as Fails}
+use Rattle.nb_value.specs.declared.outcome.Outcome.TheVariants.{Error as Fails}
 use Rattle.nb_eval.specs.Evaluation.{Evaluated, segment_end}
 use Rattle.nb_eval.specs.Work.{IsOf}
 use Rattle.nb_eval.specs.declared.given.RunEnd.{RunEnd}
 use Rattle.nb_eval.specs.declared.given.Segment.{Segment}
-use Rattle.nb_eval.specs.declared.work.Work.{Work}
-use Rattle.nb_eval.specs.declared.work.Work.TheVariants.{Direct, Run}
+use Rattle.nb_eval.specs.declared.work.Work.TheVariants.{Direct}
 use Rattle.nb_eval.specs.declared.work.WorkDone.{WorkDone}
 use Rattle.nb_eval.specs.declared.work.WorkDone.TheVariants.{Direct as DirectDone, Ran}
 use Rattle.nb_sheet.specs.declared.row.BodyOf.{BodyOf}
 use Rattle.nb_sheet.specs.declared.row.BodyOf.TheVariants.{Cell as CellBody, Import as ImportBody}
 use Rattle.nb_sheet.specs.Lists.{from_option}
-use Rattle.nb_resolve.specs.Names.{inputs}
 use Rattle.nb_history.specs.Reading.{Reading, shown}
-use Rattle.nb_history.specs.Rules.{deciding_error, body_of, evaluation, values_given, run_body, answers_of, pulls_of}
+use Rattle.nb_history.specs.Rules.{deciding_error, body_of, run_body, answers_of, pulls_of}
 use Rattle.nb_core.specs.State.{is_cell, ending_outcome, next_outcome}
 use Rattle.nb_core.specs.Core.{body_work, work_of, values_of, done_outcome}
 

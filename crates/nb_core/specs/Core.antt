@@ -1,5 +1,5 @@
 -- What the calls of the core do, over the history that it keeps.
-use Rattle.std.specs.Prelude.{ℕ, ◌+◌, ◌≡◌, ◌<◌, Bool, true, false, List, [], ◌∷◌, ◌++◌, length, Option, Some, None}
+use Rattle.std.specs.Prelude.{ℕ, ◌+◌, ◌≡◌, ◌<◌, Bool, true, false, List, ◌∷◌, ◌++◌, length, Option, Some, None}
 use Rattle.std.specs.List.{filter}
 use Rattle.nb_value.specs.declared.value.Value.{Value}
 use Rattle.nb_value.specs.declared.value.Value.TheVariants.{Null}
@@ -8,7 +8,6 @@ use Rattle.nb_value.specs.declared.outcome.Outcome.{Outcome}
 use Rattle.nb_value.specs.declared.outcome.Outcome.TheVariants.{Value as Shows, Error as Fails}
 use Rattle.nb_syntax.specs.declared.tree.Cell.{Cell}
 use Rattle.nb_syntax.specs.Plain.{is_plain}
-use Rattle.nb_eval.specs.declared.given.Segment.{Segment}
 use Rattle.nb_eval.specs.declared.work.Work.{Work}
 use Rattle.nb_eval.specs.declared.work.Work.TheVariants.{Direct, Run}
 use Rattle.nb_eval.specs.declared.work.WorkDone.{WorkDone}
@@ -27,7 +26,7 @@ use Rattle.nb_resolve.specs.Names.{inputs}
 use Rattle.nb_history.specs.Reading.{Reading, Start, start_of, is_idle, shown}
 use Rattle.nb_history.specs.Rules.{deciding_error, body_of, values_given, first_value, answers_of, pulls_of, ready, is_running, next}
 use Rattle.nb_history.specs.Log.{after, admit, Rests}
-use Rattle.nb_history.specs.Serial.{Closes, Todo, SerialFrom, closing, least_var}
+use Rattle.nb_history.specs.Serial.{Closes, Todo, SerialFrom, least_var}
 use Rattle.nb_history.specs.History.{History, standing}
 use Rattle.nb_history.specs.Headline.{ShowsScratch}
 use Rattle.nb_core.specs.declared.placed.Placed.{Placed}

@@ -1,12 +1,13 @@
-ghost use Rattle.std.specs.Prelude.{◌≡◌, ◌≤◌, ◌<◌, ◌^◌, ◌++◌, ◌∷◌, [], List, None, length, IfOk, OnOk, OnErr};
+ghost use Rattle.std.specs.Prelude.{◌≡◌, ◌≤◌, ◌<◌, ◌^◌, ◌++◌, ◌∷◌, [], List, Option, None, ◌+◌, length, IfOk, OnOk, OnErr};
 ghost use Rattle.nb_sheet.specs.Sheet.{refusal, edited_sheet};
 ghost use Rattle.nb_sheet.specs.declared.edit.Edit.{Edit as EditValue};
 ghost use Rattle.nb_log.specs.declared.entry.Entry.{Entry as EntryValue};
+ghost use Rattle.nb_history.specs.Reading.{Start as StartValue};
 ghost use Rattle.nb_core.specs.State.{IsStateOf, IsClosedOf};
 ghost use Rattle.nb_core.specs.Core.{IsAddedCell, IsAdding};
 
 use crate::closing::close;
-use crate::starts::{Started, copy_starts};
+use crate::starts::Started;
 use crate::ties::tie;
 use nb_log::{Entry, Event};
 use nb_sheet::{Edit, Sheet};
@@ -34,65 +35,73 @@ pub fn edit_entry(editor: u8, event: Event) -> Entry
     }
 }
 
-/// What follows an entry by which one more variable came: the starts then, and the entries.
-#[derive(Drop)]
-pub struct After {
-    pub starts: Vec<Option<Started>>,
-    pub entries: Vec<Entry>,
+/// Takes the last start away.
+fn drop_last(starts: &mut Vec<Option<Started>>)
+    requires { 0 < length starts.old.items }
+    ensures { (xs : List (Option StartValue)) (x : Option StartValue) → starts.old.items ≡ xs ++ x ∷ [] → starts.new.items ≡ xs }
+{
+    let kept = starts.len() - 1;
+    starts.truncate(kept);
 }
 
-/// What follows, over copies of the starts.
+/// What follows an entry by which one more variable came: the entries, with the starts as they leave them. Where
+/// memory runs out, the starts are as they were.
 fn follows(
     alloc: Global,
     sheet: &Sheet,
-    starts: &[Option<Started>],
+    starts: &mut Vec<Option<Started>>,
     place: u64,
-) -> Result<After, AllocError>
+) -> Result<Vec<Entry>, AllocError>
     requires one_module { sheet.now.modules ≡ 1 }
     requires room { place < 2 ^ 63 }
-    requires state { (log : List EntryValue) × (place ≡ length log) × IsStateOf sheet.now (starts.now ++ None ∷ []) log }
-    ensures { IfOk result (λ f. (log : List EntryValue) → place ≡ length log → IsStateOf sheet.now (starts.now ++ None ∷ []) log
-        → IsClosedOf sheet.now f.starts.items log f.entries.items) }
+    requires state { (log : List EntryValue) × (place ≡ length log) × IsStateOf sheet.now (starts.old.items ++ None ∷ []) log }
+    ensures closed { IfOk result (λ entries. (log : List EntryValue) → place ≡ length log → IsStateOf sheet.now (starts.old.items ++ None ∷ []) log
+        → IsClosedOf sheet.now starts.new.items log entries.items) }
+    ensures few { IfOk result (λ entries. length entries.items ≤ length sheet.now.rows) }
+    ensures err { OnErr result (starts.new.items ≡ starts.old.items) }
 {
     let tied = tie(alloc, sheet)?;
-    let mut copies = copy_starts(alloc, starts)?;
-    copies.push(None)?;
-    let entries = close(
+    starts.push(None)?;
+    match close(
         alloc,
         sheet.builtins(),
         sheet.rows(),
         &tied.ties,
         &tied.graph,
-        &mut copies,
+        starts,
         place,
-    )?;
-    Ok(After {
-        starts: copies,
-        entries,
-    })
+    ) {
+        Ok(entries) => Ok(entries),
+        Err(refused) => {
+            drop_last(starts);
+            Err(refused)
+        }
+    }
 }
 
-/// Does the edit that adds a cell, at a place, and computes what follows. Where memory runs out, the sheet is as it was.
+/// Does the edit that adds a cell, at a place, and what follows. Where memory runs out, sheet and starts are as they were.
 pub fn grow(
     alloc: Global,
     sheet: &mut Sheet,
-    starts: &[Option<Started>],
+    starts: &mut Vec<Option<Started>>,
     edit: &Edit,
     place: u64,
-) -> Result<After, AllocError>
+) -> Result<Vec<Entry>, AllocError>
     requires one_module { sheet.old.modules ≡ 1 }
     requires adds { IsAdding edit.now }
     requires admitted { refusal sheet.old edit.now ≡ None }
     requires room { place < 2 ^ 63 }
-    requires state { (log : List EntryValue) × (place ≡ length log) × IsStateOf (edited_sheet sheet.old edit.now place) (starts.now ++ None ∷ []) log }
+    requires state { (log : List EntryValue) × (place ≡ length log) × IsStateOf (edited_sheet sheet.old edit.now place) (starts.old.items ++ None ∷ []) log }
     ensures sheet { OnOk result (sheet.new ≡ edited_sheet sheet.old edit.now place) }
-    ensures closed { IfOk result (λ f. (log : List EntryValue) → place ≡ length log → IsStateOf (edited_sheet sheet.old edit.now place) (starts.now ++ None ∷ []) log
-        → IsClosedOf (edited_sheet sheet.old edit.now place) f.starts.items log f.entries.items) }
-    ensures err { OnErr result (sheet.new ≡ sheet.old) }
+    ensures closed { IfOk result (λ entries. (log : List EntryValue) → place ≡ length log → IsStateOf (edited_sheet sheet.old edit.now place) (starts.old.items ++ None ∷ []) log
+        → IsClosedOf (edited_sheet sheet.old edit.now place) starts.new.items log entries.items) }
+    ensures few { IfOk result (λ entries. length entries.items ≤ length sheet.old.rows + 1) }
+    ensures same_sheet { OnErr result (sheet.new ≡ sheet.old) }
+    ensures same_starts { OnErr result (starts.new.items ≡ starts.old.items) }
 {
     sheet.apply(edit, place)?;
     match follows(alloc, sheet, starts, place) {
-        Ok(found) => Ok(found),
+        Ok(entries) => Ok(entries),
         Err(refused) => {
             sheet.retract();
             Err(refused)

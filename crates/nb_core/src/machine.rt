@@ -10,7 +10,7 @@ ghost use Rattle.nb_history.specs.Rules.{ready as ready_of, next, wanted as want
 ghost use Rattle.nb_history.specs.Serial.{least_var};
 ghost use Rattle.nb_core.specs.Core.{IsAddedCell, IsAdmitted, Gains, Places, IsLonger, Settles, ShownIs, work_of, start_number, shown_outcome, running, RestsOnScratch};
 
-use crate::adding::{After, edit_entry, edit_of, grow};
+use crate::adding::{edit_entry, edit_of, grow};
 use crate::done::{copy_outcome, done_of, entry_of, outcome};
 use crate::placed::{Placed, Shown};
 use crate::starts::Started;
@@ -68,8 +68,8 @@ impl Core {
     }
 
     /// Takes the event of an added cell: its entry, and what starts after it. This is the place of the entry.
-    /// All memory is taken first: where it runs out, nothing has changed and the event comes back.
-    /// It costs a scan over the rows for each name of each cell, and one for each start.
+    /// Where memory runs out, nothing has changed and the event comes back.
+    /// It costs a scan over the rows for each name of each cell, and a look at each start for each that begins.
     pub fn event(&mut self, editor: u8, event: Event) -> Result<u64, (Event, AllocError)>
         requires low { editor < 8 }
         requires form { IsAddedCell event }
@@ -122,27 +122,21 @@ impl Core {
         ensures err { IfErr result (λ refused. (refused.0 ≡ event) × (self.new ≡ self.old)) }
     {
         let place = self.log.len() + 1;
+        let most = self.sheet.rows().len() + 2;
+        if let Err(refused) = self.log.reserve(most) {
+            return Err((event, refused));
+        }
         match grow(
             self.alloc,
             &mut self.sheet,
-            &self.starts,
+            &mut self.starts,
             edit_of(&event),
             place,
         ) {
-            Ok(after) => {
-                let After { starts, entries } = after;
-                match self.log.reserve(1 + entries.len()) {
-                    Ok(()) => {
-                        self.log.push(edit_entry(editor, event));
-                        self.log.append(entries);
-                        self.starts = starts;
-                        Ok(place)
-                    }
-                    Err(refused) => {
-                        self.sheet.retract();
-                        Err((event, refused))
-                    }
-                }
+            Ok(entries) => {
+                self.log.push(edit_entry(editor, event));
+                self.log.append(entries);
+                Ok(place)
             }
             Err(refused) => Err((event, refused)),
         }

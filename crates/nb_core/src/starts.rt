@@ -11,7 +11,7 @@ ghost use Rattle.nb_core.specs.State.{at, sheet_of, all_ties as ties_of_all, gra
 use crate::ties::{Ties, tied_at};
 use nb_graph::Graph;
 use nb_sheet::VarRow;
-use nb_value::{Outcome, Pairs, Tree, Value};
+use nb_value::{Outcome, Pairs, Value};
 use std::alloc::{AllocError, Global};
 use std::marker::Model;
 
@@ -71,21 +71,6 @@ impl Kept {
         let inputs = same_numbers(&self.inputs, &other.inputs);
         let renewals = same_numbers(&self.renewals, &other.renewals);
         places & duplicates & circulars & inputs & renewals
-    }
-
-    /// An equal one.
-    pub fn copy(&self, alloc: Global) -> Result<Kept, AllocError>
-        ensures { IfOk result (λ kept. kept ≡ self.now) }
-    {
-        let inputs = Vec::from_slice(alloc, &self.inputs)?;
-        let renewals = Vec::from_slice(alloc, &self.renewals)?;
-        Ok(Kept {
-            place: self.place,
-            is_duplicate: self.is_duplicate,
-            is_circular: self.is_circular,
-            inputs,
-            renewals,
-        })
     }
 }
 
@@ -161,43 +146,6 @@ impl Started {
         self.shown = Some(outcome);
         self.running = false;
     }
-
-    /// An equal one.
-    pub fn copy(&self, alloc: Global) -> Result<Started, AllocError>
-        ensures { IfOk result (λ started. started ≡ self.now) }
-    {
-        let kept = self.kept.copy(alloc)?;
-        let shown = self.shown.copy(alloc)?;
-        Ok(Started {
-            number: self.number,
-            kept,
-            shown,
-            running: self.running,
-        })
-    }
-}
-
-fn copy_start(alloc: Global, start: &Option<Started>) -> Result<Option<Started>, AllocError>
-    ensures { IfOk result (λ copy. copy ≡ start.now) }
-{
-    match start {
-        None => Ok(None),
-        Some(started) => Ok(Some(started.copy(alloc)?)),
-    }
-}
-
-/// An equal list of starts.
-pub fn copy_starts(
-    alloc: Global,
-    starts: &[Option<Started>],
-) -> Result<Vec<Option<Started>>, AllocError>
-    ensures { IfOk result (λ copies. copies.items ≡ starts.now) }
-{
-    let mut copies = Vec::new(alloc);
-    for start in starts {
-        copies.push(copy_start(alloc, start)?)?;
-    }
-    Ok(copies)
 }
 
 /// The renewal of a variable, 0 for an idle one.

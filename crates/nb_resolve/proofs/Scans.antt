@@ -1,21 +1,14 @@
 -- Steps of the loops that scan rows and names.
-use Rattle.std.proofs.Common.{inl, inr, ℕ, suc, ◌≡◌, ◌+◌, ◌<◌, refl, sym, ◌∙◌, ap, Bool, true, false, cond, List, [], ◌∷◌, ◌++◌, append-nil, length, take, get_or, length-take, add-zero, arith, None}
+use Rattle.std.proofs.Common.{inl, inr, ℕ, ◌≡◌, ◌+◌, ◌<◌, refl, sym, ◌∙◌, ap, Bool, true, false, cond, List, [], ◌∷◌, ◌++◌, append-nil, length, take, get_or, length-take, arith, None}
 use Rattle.std.proofs.lemmas.List.{take_more}
 use Rattle.std.proofs.lemmas.Bool.{cases_Bool}
 use Rattle.nb_sheet.specs.Lists.{Name, numbers_from}
 use Rattle.nb_sheet.specs.declared.row.VarRow.{VarRow}
 use Rattle.nb_resolve.specs.Names.{resolved}
-use Rattle.nb_resolve.specs.Scan.{also, has_name, found_in}
+use Rattle.nb_sheet.specs.Scan.{has_name}
+use Rattle.nb_sheet.proofs.Scans.{numbers_from_push}
+use Rattle.nb_resolve.specs.Scan.{also, found_in}
 use Rattle.nb_resolve.specs.declared.resolution.Resolution.{Resolution}
-
-pub numbers_from_push : {A : Type 0} (test : A → Bool) (k : ℕ) (xs : List A) (x : A) → numbers_from k test (xs ++ x ∷ []) ≡ numbers_from k test xs ++ cond (test x) ((k + length xs) ∷ []) []
-numbers_from_push test k [] x = rw add-zero refl
-numbers_from_push test k (y ∷ xs) x =
-    let e : k + 1 + length xs ≡ k + suc (length xs) = omega arith in
-    elim (cases_Bool (test y)) [
-      | inl here ↦ rw here (ap (λ (l : List ℕ). k ∷ l) (numbers_from_push test (k + 1) xs x) ∙ rw e refl)
-      | inr not_here ↦ rw not_here (numbers_from_push test (k + 1) xs x ∙ rw e refl)
-    ]
 
 resolved_push : (vs : List ℕ) (w : ℕ) → resolved (vs ++ w ∷ []) None ≡ also w (resolved vs None)
 resolved_push [] w = refl

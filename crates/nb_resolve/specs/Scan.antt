@@ -1,17 +1,15 @@
 -- What the scans over rows and builtins find.
-use Rattle.std.specs.Prelude.{ℕ, ◌&&◌, ◌==◌, Bool, false, List, [], Option, Some, None}
+use Rattle.std.specs.Prelude.{ℕ, Bool, false, List, Option, Some, None}
 use Rattle.std.specs.List.{position_from}
 use Rattle.std.specs.Str.{bytes_eq}
 use Rattle.nb_value.specs.declared.value.Value.{Value}
 use Rattle.nb_value.specs.declared.pairs.Field.{Field}
-use Rattle.nb_sheet.specs.Lists.{Name, is_name, numbers_from, from_option}
+use Rattle.nb_sheet.specs.Lists.{Name, numbers_from, from_option}
+use Rattle.nb_sheet.specs.Scan.{has_name}
 use Rattle.nb_sheet.specs.declared.row.VarRow.{VarRow}
 use Rattle.nb_resolve.specs.declared.resolution.Resolution.{Resolution}
 use Rattle.nb_resolve.specs.declared.resolution.Resolution.TheVariants.{Var, Builtin, Twice, Missing}
 use Rattle.nb_resolve.specs.Names.{resolved, is_twice}
-
-abbrev pub has_name : ℕ → Name → VarRow → Bool
-has_name m n row = (row.«module» == m) && is_name row.name n
 
 -- what one more variable of the name makes of what was found
 abbrev pub also : ℕ → Resolution → Resolution

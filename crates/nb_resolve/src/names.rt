@@ -2,7 +2,8 @@ ghost use Rattle.std.specs.Prelude.{◌≡◌, ◌≤◌, length, IfOk, map};
 ghost use Rattle.std.specs.List.{filter_map};
 ghost use Rattle.nb_syntax.specs.FreeNames.{free};
 ghost use Rattle.nb_resolve.specs.Names.{resolve as resolve_of, duplicate, is_duplicate_row, inputs as inputs_of, inputs_of_row as row_inputs, inputs_of_body as body_inputs, variable_of};
-ghost use Rattle.nb_resolve.specs.Scan.{has_name, also, found_in, builtin_place, or_builtin, is_twin as is_twin_in};
+ghost use Rattle.nb_sheet.specs.Scan.{has_name};
+ghost use Rattle.nb_resolve.specs.Scan.{also, found_in, builtin_place, or_builtin, is_twin as is_twin_in};
 
 use crate::input::Input;
 use crate::resolution::Resolution;

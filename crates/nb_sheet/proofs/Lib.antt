@@ -1,2 +1,2 @@
-mod Keeps
-mod Scans
+pub mod Keeps
+pub mod Scans

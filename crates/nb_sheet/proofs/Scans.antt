@@ -12,7 +12,7 @@ use Rattle.nb_sheet.specs.declared.refused.Refused.TheVariants.{NoVariable}
 use Rattle.nb_sheet.specs.Sheet.{Sheet, named, not_once, no_one_named, no_variable, where_true, first_of, the_one_named}
 use Rattle.nb_sheet.specs.Scan.{also, has_name, one_of, one_in}
 
-numbers_from_push : {A : Type 0} (test : A → Bool) (k : ℕ) (xs : List A) (x : A) → numbers_from k test (xs ++ x ∷ []) ≡ numbers_from k test xs ++ cond (test x) ((k + length xs) ∷ []) []
+pub numbers_from_push : {A : Type 0} (test : A → Bool) (k : ℕ) (xs : List A) (x : A) → numbers_from k test (xs ++ x ∷ []) ≡ numbers_from k test xs ++ cond (test x) ((k + length xs) ∷ []) []
 numbers_from_push test k [] x = rw add-zero refl
 numbers_from_push test k (y ∷ xs) x =
     let e : k + 1 + length xs ≡ k + suc (length xs) = omega arith in

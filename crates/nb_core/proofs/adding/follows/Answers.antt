@@ -1,6 +1,5 @@
-use Rattle.std.proofs.Common.{◌≡◌, ◌∙◌, sym, ap}
-use Rattle.nb_sheet.specs.Sheet.{Sheet}
-use Rattle.nb_core.specs.State.{sheet_of, all_ties, graph_of}
+use Rattle.std.proofs.Common.{◌∙◌, ap}
+use Rattle.nb_core.specs.State.{all_ties, graph_of}
 use Rattle.nb_core.proofs.Tables.{read_sheet}
 use Rattle.nb_core.proofs.adding.follows.Goals as goal
 

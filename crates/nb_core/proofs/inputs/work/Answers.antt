@@ -1,10 +1,10 @@
-use Rattle.std.proofs.Common.{◌≡◌, ◌∙◌, sym, ap}
+use Rattle.std.proofs.Common.{◌∙◌, sym, ap}
 use Rattle.nb_sheet.specs.Sheet.{Sheet}
 use Rattle.nb_resolve.specs.Names.{duplicate, inputs}
 use Rattle.nb_history.specs.Needs.{circular}
 use Rattle.nb_core.specs.Core.{work_of}
 use Rattle.nb_core.specs.State.{at, sheet_of}
-use Rattle.nb_core.proofs.Tables.{one_sheet, read_sheet}
+use Rattle.nb_core.proofs.Tables.{read_sheet}
 use Rattle.nb_core.proofs.inputs.work.Goals as goal
 
 pub row_work-requires-clause-inputs : goal.row_work-requires-clause-inputs

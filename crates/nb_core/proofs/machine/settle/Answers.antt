@@ -1,4 +1,4 @@
-use Rattle.std.proofs.Common.{◌≡◌, ◌∙◌, sym}
+use Rattle.std.proofs.Common.{◌∙◌, sym}
 use Rattle.nb_history.specs.History.{standing}
 use Rattle.nb_core.proofs.Runs.{first_ready, settling_goes_on}
 use Rattle.nb_core.proofs.machine.settle.Goals as goal

@@ -1,4 +1,4 @@
-use Rattle.std.proofs.Common.{◌≡◌, ◌<◌, ◌+◌, ◌∙◌, ap, length, arith, List, ℕ}
+use Rattle.std.proofs.Common.{◌<◌, ◌+◌, ◌∙◌, ap, length, arith, List, ℕ}
 use Rattle.std.specs.List.{filter_map}
 use Rattle.nb_graph.specs.Graph.{with_needs}
 use Rattle.nb_sheet.specs.Lists.{Name}

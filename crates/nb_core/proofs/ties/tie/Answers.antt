@@ -1,4 +1,4 @@
-use Rattle.std.proofs.Common.{◌≡◌, ◌≤◌, ◌∙◌, ap, length, arith, List}
+use Rattle.std.proofs.Common.{◌≡◌, ◌∙◌, ap, length, arith, List}
 use Rattle.nb_sheet.specs.Lists.{Name}
 use Rattle.nb_resolve.specs.declared.resolution.Resolution.{Resolution}
 use Rattle.nb_core.proofs.Tables.{inputs_within}

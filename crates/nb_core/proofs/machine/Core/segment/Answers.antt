@@ -1,4 +1,4 @@
-use Rattle.std.proofs.Common.{◌≡◌, ◌∙◌, ap}
+use Rattle.std.proofs.Common.{◌∙◌, ap}
 use Rattle.nb_core.specs.State.{at}
 use Rattle.nb_core.specs.Core.{work_of}
 use Rattle.nb_core.proofs.Calls.{told_work}

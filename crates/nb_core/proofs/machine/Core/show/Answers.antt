@@ -1,4 +1,4 @@
-use Rattle.std.proofs.Common.{◌≡◌, ◌+◌, ◌∙◌, ap, List, [], ◌∷◌, ◌++◌, length}
+use Rattle.std.proofs.Common.{◌+◌, ◌∙◌, ap, List, [], ◌∷◌, ◌++◌, length}
 use Rattle.nb_log.specs.declared.entry.Entry.{Entry}
 use Rattle.nb_history.specs.History.{History}
 use Rattle.nb_core.proofs.Calls.{told_completed}
