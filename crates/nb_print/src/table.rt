@@ -52,12 +52,7 @@ fn push_table(alloc: Global, out: &mut Bytes, core: &Core) -> Result<(), AllocEr
 }
 
 /// The table lines of the wanted variables among these rows, which are those of the core.
-fn push_rows(
-    alloc: Global,
-    out: &mut Bytes,
-    core: &Core,
-    rows: &[VarRow],
-) -> Result<(), AllocError>
+fn push_rows(alloc: Global, out: &mut Bytes, core: &Core, rows: &[VarRow]) -> Result<(), AllocError>
     requires rows { rows.now ≡ (standing core.now).sheet.rows }
     requires few { length rows.now ≤ 1024 }
     ensures { OnOk result (out.new ≡ out.old ++ table_text (standing core.now)) }
