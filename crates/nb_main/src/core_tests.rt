@@ -9,7 +9,8 @@ use nb_parser::parse_cell;
 use nb_sheet::Edit;
 use nb_syntax::{Cell, is_plain};
 use nb_value::{ErrorKind, Pairs};
-use std::alloc::{AllocError, Global};
+use std::alloc::Global;
+use std::mem::drop;
 use std::test::Fail;
 
 fn cell(alloc: Global, text: &str) -> Result<Cell, Fail> {
@@ -31,6 +32,7 @@ fn added(alloc: Global, text: &str) -> Result<Event, Fail>
             observed: true,
         }))
     } else {
+        drop(cell);
         Err("not plain".into())
     }
 }
@@ -40,7 +42,10 @@ fn add(alloc: Global, core: &mut Core, text: &str) -> Result<u64, Fail> {
     let event = added(alloc, text)?;
     match core.event(0, event) {
         Ok(place) => Ok(place),
-        Err((_event, _refused)) => Err("memory".into()),
+        Err(back) => {
+            drop(back);
+            Err("memory".into())
+        }
     }
 }
 
@@ -49,26 +54,38 @@ fn done_of(alloc: Global, work: Work) -> Result<WorkDone, Fail> {
         Work::Direct(outcome) => Ok(WorkDone::Direct(outcome)),
         Work::Run(segment) => match evaluate(alloc, segment) {
             Ok(finished) => Ok(WorkDone::Ran(finished)),
-            Err((_segment, _refused)) => Err("memory".into()),
+            Err(back) => {
+                drop(back);
+                Err("memory".into())
+            }
         },
     }
 }
 
 // The least ready variable's work, done.
-fn first_done(alloc: Global, core: &Core) -> Result<Option<WorkDone>, Fail> {
+fn first_done(alloc: Global, core: &Core) -> Result<WorkDone, Fail> {
     match core.next_ready() {
-        None => Ok(None),
+        None => Err("nothing is ready".into()),
         Some(var) => {
             let work = core.segment(var)?;
-            Ok(Some(done_of(alloc, work)?))
+            done_of(alloc, work)
         }
     }
 }
 
-fn complete(core: &mut Core, var: u32, start: u64, done: WorkDone) -> Result<Placed, AllocError> {
-    match core.complete(var, start, done) {
+// What the work that was done of a first definition comes to, after a second one.
+fn outdated(alloc: Global, core: &mut Core) -> Result<Placed, Fail> {
+    add(alloc, core, "x = 1")?;
+    let done = first_done(alloc, core)?;
+    let second = add(alloc, core, "x = 2");
+    let placed = core.complete(1, 2, done);
+    second?;
+    match placed {
         Ok(placed) => Ok(placed),
-        Err((_done, refused)) => Err(refused),
+        Err(back) => {
+            drop(back);
+            Err("memory".into())
+        }
     }
 }
 
@@ -83,21 +100,16 @@ fn is_defined_twice(shown: Shown<'_>) -> bool {
 fn a_second_definition_makes_work_stale(rt: HostRuntime) -> Result<(), Fail> {
     let alloc = rt.alloc();
     let mut core = Core::new(alloc, Pairs::new(alloc))?;
-    assert_eq!(rt; add(alloc, &mut core, "x = 1")?, 1);
-    assert_eq!(rt; core.start(1), 2);
-    let done = first_done(alloc, &core)?.ok_or("nothing is ready")?;
-    assert!(rt; matches!(done, WorkDone::Ran(_)));
-    assert_eq!(rt; add(alloc, &mut core, "x = 2")?, 3);
-    assert_eq!(rt;
-        complete(&mut core, 1, 2, done)?,
-        Placed::Stale { held: 2, now: 4 }
-    );
+    let placed = outdated(alloc, &mut core)?;
+    assert_eq!(rt; placed, Placed::Stale { held: 2, now: 4 });
     assert!(rt; matches!(core.shown(1), Shown::Waiting));
-    assert_eq!(rt; core.next_ready(), Some(1));
     settle(&mut core)?;
-    assert!(rt; is_defined_twice(core.shown(1)));
-    assert!(rt; is_defined_twice(core.shown(2)));
-    assert!(rt; matches!(core.shown(3), Shown::Idle));
+    let twice = [
+        is_defined_twice(core.shown(1)),
+        is_defined_twice(core.shown(2)),
+        matches!(core.shown(3), Shown::Idle),
+    ];
+    assert_eq!(rt; twice, [true, true, true]);
     assert_eq!(rt; core.log().len(), 7);
     Ok(())
 }
