@@ -24,11 +24,10 @@ use Rattle.nb_history.specs.Reading.{Reading, Start}
 use Rattle.nb_history.specs.Log.{reading, nothing_yet, IsQuiet, admit, when}
 use Rattle.nb_history.specs.Serial.{closing}
 use Rattle.nb_history.proofs.Histories.{legal_append}
-use Rattle.nb_core.specs.State.{sheet_of, reading_of, is_cell, row_of, IsBare, IsState, IsLocal, IsQuietLog}
+use Rattle.nb_core.specs.State.{sheet_of, reading_of, is_cell, row_of, IsBare, IsState, IsQuietLog}
 use Rattle.nb_core.proofs.States.{of_log, stands_after}
-use Rattle.nb_core.proofs.Locals.{nth_push}
-use Rattle.nb_core.proofs.LocalAdds.{local_added, local_later}
-use Rattle.nb_core.proofs.Begins.{calm_state, older_bare}
+use Rattle.nb_history.proofs.EditedRows.{nth_push}
+use Rattle.nb_core.proofs.Begins.{older_bare}
 
 abbrev pub adding : Cell → Event
 adding cell = EditEvent (AddCell 0 cell true)
@@ -82,7 +81,6 @@ module _ (builtins : List (Field Value)) (rows : List VarRow) (starts : List (Op
         plain = state.plain;
         bare = λ v s there. subst (λ (n : ℕ). IsBare n s) (sym len) (older_bare (length log) s (state.bare v s there));
         same_len = state.same_len;
-        local = subst (IsLocal builtins rows starts) (sym len) (local_later builtins rows starts (length log) state.local);
       }
 
   pub quiet_refused : IsQuietLog builtins (log ++ Refused editor reason event ∷ [])
@@ -124,5 +122,4 @@ module _ (builtins : List (Field Value)) (rows : List VarRow) (starts : List (Op
           | inr same ↦ absurd (none-some s same)
         ]);
         same_len = omega (arith, length-append rows (row_of cell (length log + 1) ∷ []), length-append starts (None ∷ []), state.same_len);
-        local = subst (IsLocal builtins rows' starts') (sym len_added) (local_added builtins rows starts (length log) (row_of cell (length log + 1)) state.same_len (calm_state builtins rows starts log state quiet.1) state.local);
       }

@@ -1,8 +1,8 @@
 -- A variable starts, and what is known where none may.
 use Rattle.std.proofs.Common.{inl, inr, ℕ, ◌≡◌, ◌+◌, refl, sym, ◌∙◌, ap, subst, Bool, true, false, cond, not, ◌&&◌, ◌||◌, List, [], ◌∷◌, ◌++◌, length, length-append, arith, Option, Some, None, is_some}
 use Rattle.std.specs.List.{list_any}
-use Rattle.std.proofs.lemmas.Bool.{cases_eq, and_left}
-use Rattle.std.proofs.lemmas.Option.{same_Some}
+use Rattle.std.proofs.lemmas.Bool.{cases_eq, and_left, false_from_ne_true}
+use Rattle.std.proofs.lemmas.Option.{none-some, same_Some}
 use Rattle.nb_value.specs.declared.value.Value.{Value}
 use Rattle.nb_value.specs.declared.pairs.Field.{Field}
 use Rattle.nb_log.specs.Printing.{entry_size}
@@ -15,17 +15,19 @@ use Rattle.nb_history.specs.Lists.{first_where}
 use Rattle.nb_history.specs.Needs.{circular, needed, is_defined, is_observed, is_root, needs}
 use Rattle.nb_resolve.specs.Names.{direct}
 use Rattle.nb_history.specs.Reading.{Reading, Start, Footing, start_of, is_idle, owed}
-use Rattle.nb_history.specs.Rules.{wanted, leaving, due, is_behind, may_start, footing}
+use Rattle.nb_history.specs.Rules.{wanted, leaving, due, is_behind, is_pulling, pulls_on, is_held, may_start, footing}
 use Rattle.nb_history.specs.Log.{after, new_start, reading, nothing_yet, LegalFrom, IsQuiet}
 use Rattle.nb_history.specs.Serial.{least_var, closing}
-use Rattle.nb_graph.proofs.Reaches.{has_head, has_tail, needed_within}
+use Rattle.nb_graph.proofs.Reaches.{any_has, has_head, has_tail, needed_within}
 use Rattle.nb_history.proofs.Direct.{direct_within}
 use Rattle.nb_history.proofs.Closing.{number_has, has_number, nth_put_same, nth_put_other, length_put, nth_as_long, first_some, closing_pending, closing_none, quiet_from_none}
 use Rattle.nb_history.proofs.Histories.{legal_append}
-use Rattle.nb_core.specs.State.{at as at_rows, sheet_of, reading_of, may_begin, begun, is_cell, IsPlain, IsBare, IsState, IsLocal}
+use Rattle.nb_history.proofs.Held.{free_from}
+use Rattle.nb_history.proofs.Scratches.{NamedDefined}
+use Rattle.nb_history.proofs.Lawful.{IsPulling, pulling_parts}
+use Rattle.nb_core.specs.State.{at as at_rows, sheet_of, reading_of, may_begin, begun, is_cell, IsPlain, IsBare, IsState}
 use Rattle.nb_core.proofs.Cells.{cell_is_some}
 use Rattle.nb_core.proofs.States.{of_log, after_log, stands_after}
-use Rattle.nb_core.proofs.Locals.{local_begun}
 
 -- ---- tests that agree
 
@@ -43,9 +45,33 @@ first_nothing : (f : ℕ → Bool) (xs : List ℕ) → ((x : ℕ) → has xs x �
 first_nothing f [] h = refl
 first_nothing f (x ∷ xs) h = rw (h x (has_head x xs x refl)) (first_nothing f xs (λ y k. h y (has_tail x xs y k)))
 
+-- ---- nothing is pulling: each start is at its first pull
+
+started_at : (starts : List (Option Start)) (v : ℕ) (s : Start) → option_then (nth starts v) (λ s. s) ≡ Some s → nth starts v ≡ Some (Some s)
+started_at starts v s h = go (nth starts v) refl h
+  where
+    go : (o : Option (Option Start)) → nth starts v ≡ o → option_then o (λ s. s) ≡ Some s → nth starts v ≡ Some (Some s)
+    go None e k = absurd (none-some s k)
+    go (Some o) e k = e ∙ ap (λ (o : Option Start). Some o) k
+
+pub state_pulls : (builtins : List (Field Value)) (rows : List VarRow) (starts : List (Option Start)) (log : List Entry) → IsState builtins rows starts log → pulls_on (of_log builtins rows starts log) ≡ false
+state_pulls builtins rows starts log state =
+    false_from_ne_true (pulls_on (of_log builtins rows starts log)) (λ h.
+    let r : Reading = of_log builtins rows starts log in
+    let t : (w : ℕ) × (has (numbers rows) w ≡ true) × (is_pulling r w ≡ true) = any_has (is_pulling r) (numbers rows) h in
+    let p : IsPulling r t.0 = pulling_parts r t.0 t.2 in
+    omega (arith, p.later, (state.bare t.0 p.start (started_at starts t.0 p.start p.there)).pulls))
+
+pub and_true : (b : Bool) → (b && true) ≡ b
+and_true true = refl
+and_true false = refl
+
 -- ---- every variable is wanted
 
-module _ (builtins : List (Field Value)) (rows : List VarRow) (plain : IsPlain rows) (starts : List (Option Start)) (n size : ℕ) where
+pub plain_defined : (builtins : List (Field Value)) (rows : List VarRow) → IsPlain rows → NamedDefined (sheet_of builtins rows)
+plain_defined builtins rows plain v row at named = cell_is_some row.body (plain v row at).1
+
+module _ (builtins : List (Field Value)) (rows : List VarRow) (plain : IsPlain rows) (starts : List (Option Start)) (n size : ℕ) (none : pulls_on (reading_of builtins rows starts n size) ≡ false) where
   pub all_wanted : (v : ℕ) → has (numbers rows) v ≡ true → wanted (reading_of builtins rows starts n size) v ≡ true
   all_wanted v h =
       let t : (row : VarRow) × (nth rows v ≡ Some row) = number_has rows v h in
@@ -56,7 +82,11 @@ module _ (builtins : List (Field Value)) (rows : List VarRow) (plain : IsPlain r
       ∙ ap (λ (b : Bool). b || list_any (λ w. is_root (sheet_of builtins rows) w && needs (sheet_of builtins rows) w v) (numbers rows)) observed
 
   pub due_behind : (v : ℕ) → has (numbers rows) v ≡ true → due (reading_of builtins rows starts n size) v ≡ is_behind (reading_of builtins rows starts n size) v
-  due_behind v h = ap (λ (b : Bool). b && is_behind (reading_of builtins rows starts n size) v) (all_wanted v h)
+  due_behind v h =
+      let r : Reading = reading_of builtins rows starts n size in
+      ap (λ (b : Bool). b && is_behind r v && not (is_held r v)) (all_wanted v h)
+      ∙ ap (λ (b : Bool). is_behind r v && not b) (free_from r none v)
+      ∙ and_true (is_behind r v)
 
   may_start_begin : (v : ℕ) → has (numbers rows) v ≡ true → may_start (reading_of builtins rows starts n size) v ≡ may_begin (reading_of builtins rows starts n size) v
   may_start_begin v h =
@@ -90,7 +120,7 @@ module _ (builtins : List (Field Value)) (rows : List VarRow) (starts : List (Op
   r = of_log builtins rows starts log
 
   may : least_var (of_log builtins rows starts log) (may_start (of_log builtins rows starts log)) ≡ Some v
-  may = least_begin builtins rows state.plain starts (length log) (Reading.size (reading builtins log)) ∙ first
+  may = least_begin builtins rows state.plain starts (length log) (Reading.size (reading builtins log)) (state_pulls builtins rows starts log state) ∙ first
 
   pub may_v : (may_start (of_log builtins rows starts log) v ≡ true) × (has (numbers rows) v ≡ true)
   may_v = first_some (may_start (of_log builtins rows starts log)) (numbers rows) v may
@@ -102,7 +132,7 @@ module _ (builtins : List (Field Value)) (rows : List VarRow) (starts : List (Op
   owes_nothing = no_owed (length log) starts v start_there.0 start_there.1 (λ s at. state.bare v s at)
 
   pub next_closing : closing (of_log builtins rows starts log) ≡ Some (Pending v [])
-  next_closing = closing_pending (of_log builtins rows starts log) v (none_leaving builtins rows state.plain starts (length log) (Reading.size (reading builtins log))) may ∙ ap (λ (d : List _). Some (Pending v d)) owes_nothing
+  next_closing = closing_pending (of_log builtins rows starts log) v (none_leaving builtins rows state.plain starts (length log) (Reading.size (reading builtins log)) (state_pulls builtins rows starts log state)) may ∙ ap (λ (d : List _). Some (Pending v d)) owes_nothing
 
   len : length (log ++ Pending v [] ∷ []) ≡ length log + 1
   len = length-append log (Pending v [] ∷ [])
@@ -127,7 +157,6 @@ module _ (builtins : List (Field Value)) (rows : List VarRow) (starts : List (Op
           | inr other ↦ older_bare (length log) s (state.bare w s (sym (nth_put_other starts v w (Some (new_start (length log + 1) (footing (at_rows builtins rows starts) v))) other) ∙ at))
         ]);
         same_len = length_put starts v (Some (new_start (length log + 1) (footing (at_rows builtins rows starts) v))) ∙ state.same_len;
-        local = subst (IsLocal builtins rows (begun builtins rows starts (length log) v)) (sym len) (local_begun builtins rows starts (length log) v start_there.0 start_there.1 state.local);
       }
 
 -- where nothing is due, no start is behind
@@ -136,7 +165,7 @@ pub calm_state : (builtins : List (Field Value)) (rows : List VarRow) (starts : 
 calm_state builtins rows starts log state quiet w t there =
     let quiet' : IsQuiet (of_log builtins rows starts log) = subst IsQuiet state.stands quiet in
     let row : (row : VarRow) × (nth rows w ≡ Some row) = nth_as_long starts rows w (Some t) (sym state.same_len) there in
-    sym (due_behind builtins rows state.plain starts (length log) (Reading.size (reading builtins log)) w (has_number rows w row.0 row.1)) ∙ (quiet' w).1
+    sym (due_behind builtins rows state.plain starts (length log) (Reading.size (reading builtins log)) (state_pulls builtins rows starts log state) w (has_number rows w row.0 row.1)) ∙ (quiet' w).1
 
 -- where nothing may begin, nothing is leaving or due
 pub state_quiet : (builtins : List (Field Value)) (rows : List VarRow) (starts : List (Option Start)) (log : List Entry) → IsState builtins rows starts log
@@ -144,8 +173,8 @@ pub state_quiet : (builtins : List (Field Value)) (rows : List VarRow) (starts :
     → (closing (reading builtins log) ≡ None) × IsQuiet (reading builtins log)
 state_quiet builtins rows starts log state none =
     let r = of_log builtins rows starts log in
-    let no_left : least_var r (leaving r) ≡ None = none_leaving builtins rows state.plain starts (length log) (Reading.size (reading builtins log)) in
-    let no_start : least_var r (may_start r) ≡ None = least_begin builtins rows state.plain starts (length log) (Reading.size (reading builtins log)) ∙ none in
+    let no_left : least_var r (leaving r) ≡ None = none_leaving builtins rows state.plain starts (length log) (Reading.size (reading builtins log)) (state_pulls builtins rows starts log state) in
+    let no_start : least_var r (may_start r) ≡ None = least_begin builtins rows state.plain starts (length log) (Reading.size (reading builtins log)) (state_pulls builtins rows starts log state) ∙ none in
     subst (λ (x : Reading). (closing x ≡ None) × IsQuiet x) (sym state.stands) (closing_none r no_left no_start, quiet_from_none r state.same_len no_left no_start)
 
 -- where nothing is due, nothing may begin
@@ -153,5 +182,5 @@ pub begins_none : (builtins : List (Field Value)) (rows : List VarRow) (starts :
 begins_none builtins rows starts log state quiet =
     let quiet' : IsQuiet (of_log builtins rows starts log) = subst IsQuiet state.stands quiet in
     first_nothing (may_begin (at_rows builtins rows starts)) (numbers rows) (λ x h.
-    let calm : is_behind (of_log builtins rows starts log) x ≡ false = sym (due_behind builtins rows state.plain starts (length log) (Reading.size (reading builtins log)) x h) ∙ (quiet' x).1 in
+    let calm : is_behind (of_log builtins rows starts log) x ≡ false = sym (due_behind builtins rows state.plain starts (length log) (Reading.size (reading builtins log)) (state_pulls builtins rows starts log state) x h) ∙ (quiet' x).1 in
     and_left (is_behind (at_rows builtins rows starts) x) (circular (sheet_of builtins rows) x || not (list_any (is_behind (at_rows builtins rows starts)) (needed (sheet_of builtins rows) x))) calm)

@@ -12,11 +12,13 @@ use Rattle.nb_sheet.specs.Sheet.{Sheet}
 use Rattle.nb_sheet.specs.Lists.{nth, numbers, from_option, option_then}
 use Rattle.nb_history.specs.Lists.{first_where}
 use Rattle.nb_history.specs.Reading.{Reading, Start}
-use Rattle.nb_history.specs.Rules.{due, footing}
+use Rattle.nb_history.specs.Rules.{is_behind, footing}
 use Rattle.nb_history.specs.Log.{new_start, reading, nothing_yet}
 use Rattle.nb_history.specs.Serial.{closing, Closes}
 use Rattle.nb_graph.proofs.Reaches.{passing, passing_le, passing_more, Same}
-use Rattle.nb_history.proofs.Closing.{range_has, nth_put_same, nth_put_other, first_some, Settled, settled_pending, is_since, may_start_cases}
+use Rattle.nb_history.proofs.Closing.{range_has, nth_put_same, nth_put_other, first_some, Settled, settled_pending, is_since}
+use Rattle.nb_history.proofs.Held.{may_begin as may_begin_of, may_behind}
+use Rattle.nb_core.proofs.Begins.{plain_defined}
 use Rattle.nb_history.proofs.Histories.{read_append, ClosesTo, closes_push, closes_end}
 use Rattle.nb_core.specs.State.{at as at_rows, reading_of, may_begin, begun, IsBare, IsState, IsClosed}
 use Rattle.nb_core.proofs.States.{of_log}
@@ -45,7 +47,7 @@ fewer_unstarted p builtins rows starts log state v first below settled =
     ∙ lt-ltb p (length log + 1) (omega arith) in
     -- and had none
     let m = may_v builtins rows starts log state v first in
-    let due_v : due (of_log builtins rows starts log) v ≡ true = (may_start_cases (of_log builtins rows starts log) v m.0).0 in
+    let due_v : is_behind (of_log builtins rows starts log) v ≡ true = may_behind (of_log builtins rows starts log) v m.0 in
     let not_since : before v ≡ true = elim (cases_Bool (is_since p (at_rows builtins rows starts) v)) [
       | inl yes_since ↦ absurd (false≢true (sym (settled v yes_since).0 ∙ due_v))
       | inr no_since ↦ ap not no_since
@@ -97,7 +99,7 @@ closing_goes_on builtins rows starts log0 log c v first =
     let es = c.so_far.0 in
     record {
       state = state_begun builtins rows starts log c.state v first;
-      settled = subst (Settled (length log0)) (after_begin builtins rows starts log c.state v first) (settled_pending (length log0) r v [] there.0 there.1 m.0 c.settled);
+      settled = subst (Settled (length log0)) (after_begin builtins rows starts log c.state v first) (settled_pending (length log0) r v [] there.0 there.1 (may_behind r v m.0) (may_begin_of r (plain_defined builtins rows c.state.plain) v m.0) c.settled);
       so_far = (
         es ++ Pending v [] ∷ [],
         ap (λ (l : List Entry). l ++ Pending v [] ∷ []) c.so_far.1 ∙ append_assoc log0 es (Pending v [] ∷ []),

@@ -1,8 +1,8 @@
 -- What a ready variable shows next is its next entry, and by it nothing becomes due.
 use Rattle.std.proofs.Common.{inl, inr, ℕ, ◌≡◌, ◌+◌, refl, sym, ◌∙◌, ap, subst, Bool, true, false, cond, not, ◌&&◌, ◌||◌, List, [], ◌∷◌, ◌++◌, length, length-append, arith, Option, Some, None, is_some}
 use Rattle.std.specs.Prelude.{nat_le, ◌==◌}
-use Rattle.std.specs.List.{list_any, list_all}
-use Rattle.std.proofs.lemmas.Bool.{and_parts, cases_eq, false≢true, and_right, and_left}
+use Rattle.std.specs.List.{list_any}
+use Rattle.std.proofs.lemmas.Bool.{cases_eq, false≢true, and_right, and_left}
 use Rattle.std.proofs.lemmas.Option.{same_Some}
 use Rattle.nb_value.specs.declared.value.Value.{Value}
 use Rattle.nb_value.specs.declared.pairs.Field.{Field}
@@ -16,18 +16,17 @@ use Rattle.nb_log.specs.declared.entry.Entry.{Entry}
 use Rattle.nb_log.specs.declared.entry.Entry.TheVariants.{Fulfilled, Rejected}
 use Rattle.nb_sheet.specs.Lists.{nth, put, numbers, from_option, option_then}
 use Rattle.nb_history.specs.Lists.{first_where}
-use Rattle.nb_resolve.specs.Names.{inputs, direct, duplicate}
+use Rattle.nb_resolve.specs.Names.{inputs}
 use Rattle.nb_history.specs.Needs.{circular, needed}
-use Rattle.nb_history.specs.Reading.{Reading, Start, Footing, start_of, shown, renewal}
-use Rattle.nb_history.specs.Rules.{values_given, deciding_error, evaluated, evaluation, next, body_of, generates, answers_of, pulls_of, footing, is_behind, is_running, ready}
+use Rattle.nb_history.specs.Reading.{Reading, Start, Footing, start_of, number, renewal}
+use Rattle.nb_history.specs.Rules.{values_given, deciding_error, evaluated, evaluation, next, body_of, generates, answers_of, pulls_of, footing, is_behind, ready}
 use Rattle.nb_history.specs.Log.{after, showing, cleanups_now, ends_at_once, is_done, reading, nothing_yet, Fits, IsNext, IsQuiet}
 use Rattle.nb_history.proofs.Closing.{nth_put_same, nth_put_other, length_put, footing_agree, behind_by}
 use Rattle.nb_history.proofs.Histories.{legal_append}
-use Rattle.nb_core.specs.State.{at as at_rows, sheet_of, reading_of, shown_in, is_cell, ending_outcome, next_outcome, shown_entry, showing_start, IsPlain, IsBare, IsState, IsLocal, may_begin}
+use Rattle.nb_core.specs.State.{at as at_rows, sheet_of, reading_of, shown_in, is_cell, ending_outcome, next_outcome, shown_entry, showing_start, IsPlain, IsBare, IsState, may_begin}
 use Rattle.nb_core.proofs.Cells.{cell_entry, cell_cleanups, never_generates}
-use Rattle.nb_core.proofs.States.{of_log, stands_after}
-use Rattle.nb_core.proofs.Locals.{local_shown}
-use Rattle.nb_core.proofs.Begins.{calm_state, list_any_agree, first_agree}
+use Rattle.nb_core.proofs.States.{stands_after}
+use Rattle.nb_core.proofs.Begins.{list_any_agree, first_agree}
 
 module _ (builtins : List (Field Value)) (rows : List VarRow) (starts : List (Option Start)) (n size v : ℕ) (cells : is_cell (body_of (sheet_of builtins rows) v) ≡ true) where
   abbrev values : List (Field Value)
@@ -100,9 +99,12 @@ module _ (builtins : List (Field Value)) (rows : List VarRow) (starts : List (Op
   same_renewal : (w : ℕ) → renewal (at_rows builtins rows after') w ≡ renewal (at_rows builtins rows starts) w
   same_renewal w = same_start w ℕ (λ (o : Option Start). from_option 0 (λ (s : Start). s.renewal) o) refl
 
+  same_number : (w : ℕ) → number (at_rows builtins rows after') w ≡ number (at_rows builtins rows starts) w
+  same_number w = same_start w ℕ (λ (o : Option Start). from_option 0 (λ (s : Start). s.number) o) refl
+
   pub same_behind : (w : ℕ) → is_behind (at_rows builtins rows after') w ≡ is_behind (at_rows builtins rows starts) w
   same_behind w =
-      ap (λ (f : Footing). behind_by f (start_of (at_rows builtins rows after') w)) (footing_agree (sheet_of builtins rows) (renewal (at_rows builtins rows after')) (renewal (at_rows builtins rows starts)) w (λ c x h. same_renewal x))
+      ap (λ (f : Footing). behind_by f (start_of (at_rows builtins rows after') w)) (footing_agree (sheet_of builtins rows) (number (at_rows builtins rows after')) (number (at_rows builtins rows starts)) (renewal (at_rows builtins rows after')) (renewal (at_rows builtins rows starts)) w (λ c x h. same_number x) (λ c x h. same_renewal x))
       ∙ same_start w Bool (behind_by (footing (at_rows builtins rows starts) w)) refl
 
   same_begin : (w : ℕ) → may_begin (at_rows builtins rows after') w ≡ may_begin (at_rows builtins rows starts) w
@@ -147,12 +149,4 @@ module _ (builtins : List (Field Value)) (rows : List VarRow) (starts : List (Op
               record { number = omega (arith, b.number); answers = b.answers; owed = b.owed; pulls = b.pulls; ended = b.ended; fresh = b.fresh }
         ]);
         same_len = length_put starts v (Some (showing_start o s)) ∙ state.same_len;
-        local =
-            let r = of_log builtins rows starts log in
-            let h : ready r v ≡ true = sym (ap (λ (r : Reading). ready r v) state.stands) ∙ is_ready in
-            let t : (is_running r v ≡ true) × ((duplicate r.sheet v || circular r.sheet v || list_all (λ u. is_some (shown r u)) (direct r.sheet v)) ≡ true) =
-            and_parts (is_running r v) (duplicate r.sheet v || circular r.sheet v || list_all (λ u. is_some (shown r u)) (direct r.sheet v)) h in
-            let runs : s.running ≡ true = sym (ap (λ (o : Option (Option Start)). from_option false (λ (s : Start). s.running) (option_then o (λ s. s))) at) ∙ t.0 in
-            subst (IsLocal builtins rows (put starts v (Some (showing_start o s)))) (sym len)
-            (local_shown builtins rows starts (length log) v s at bare.fresh runs cells_v t.1 (calm_state builtins rows starts log state quiet) state.local);
       }

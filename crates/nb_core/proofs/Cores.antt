@@ -1,7 +1,7 @@
 -- What the core's calls leave: a core again, and the entries that the log gained.
-use Rattle.std.proofs.Common.{inl, inr, ℕ, zero, suc, ◌≡◌, ◌+◌, ◌<◌, ◌≤◌, refl, sym, ◌∙◌, ap, subst, Bool, true, false, ◌||◌, ◌⊎◌, List, [], ◌∷◌, ◌++◌, append_assoc, length, length-append, arith, Option, Some, None, is_some}
-use Rattle.std.specs.List.{list_all, filter}
-use Rattle.std.proofs.lemmas.Bool.{false≢true, and_parts, cases_eq}
+use Rattle.std.proofs.Common.{inl, inr, ℕ, zero, suc, ◌≡◌, ◌+◌, ◌<◌, ◌≤◌, refl, sym, ◌∙◌, ap, subst, Bool, true, false, ◌⊎◌, List, [], ◌∷◌, ◌++◌, append_assoc, length, length-append, arith, Option, Some, None}
+use Rattle.std.specs.List.{filter}
+use Rattle.std.proofs.lemmas.Bool.{false≢true, cases_eq}
 use Rattle.nb_value.specs.declared.value.Value.{Value}
 use Rattle.nb_value.specs.declared.pairs.Field.{Field}
 use Rattle.std.proofs.lemmas.Option.{none-some}
@@ -16,15 +16,14 @@ use Rattle.nb_log.specs.declared.entry.Entry.TheVariants.{Edit, Refused}
 use Rattle.nb_graph.specs.Needs.{has}
 use Rattle.nb_sheet.specs.Lists.{nth, put, numbers, from_option, option_then}
 use Rattle.nb_history.specs.Lists.{first_where}
-use Rattle.nb_resolve.specs.Names.{duplicate, direct}
-use Rattle.nb_history.specs.Needs.{circular}
-use Rattle.nb_history.specs.Reading.{Reading, Start, shown}
+use Rattle.nb_history.specs.Reading.{Reading, Start}
 use Rattle.nb_history.specs.Rules.{ready, is_running, next}
 use Rattle.nb_history.specs.Log.{reading, nothing_yet, after, admit}
 use Rattle.nb_history.specs.Serial.{least_var, closing, Closes}
 use Rattle.nb_history.specs.History.{History, IsClosedHistory}
 use Rattle.nb_history.proofs.Closing.{nth_as_long, has_number, nth_put_same, nth_put_other}
 use Rattle.nb_history.proofs.Histories.{read_append}
+use Rattle.nb_history.proofs.Lawful.{ready_parts}
 use Rattle.nb_graph.proofs.Reaches.{passing, passing_more, Same}
 use Rattle.nb_core.specs.State.{at as at_rows, may_begin, row_of, next_outcome, shown_entry, showing_start, ready_in, IsState, IsCore, IsClosed}
 use Rattle.nb_core.specs.Core.{Gains, running}
@@ -107,7 +106,7 @@ module _ (builtins : List (Field Value)) (rows : List VarRow) (starts : List (Op
   runs =
       let r = of_log builtins rows starts log in
       let h : ready r v ≡ true = sym (ap (λ (r : Reading). ready r v) core.state.stands) ∙ is_ready in
-      (and_parts (is_running r v) (duplicate r.sheet v || circular r.sheet v || list_all (λ u. is_some (shown r u)) (direct r.sheet v)) h).0
+      (ready_parts r v h).running
 
   pub ready_started : (s : Start) × (nth starts v ≡ Some (Some s))
   ready_started = running_start starts v runs
@@ -183,6 +182,5 @@ core_begins builtins =
       plain = λ v row h. absurd (nothing_there v row h);
       bare = λ v s h. absurd (nothing_there v (Some s) h);
       same_len = refl;
-      local = record { small = λ v s h. absurd (nothing_there v (Some s) h); shows = λ v s h. absurd (nothing_there v (Some s) h) };
     } in
     record { state = state; quiet = state_quiet builtins [] [] [] state refl; few = omega arith }

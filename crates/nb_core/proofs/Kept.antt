@@ -15,10 +15,15 @@ use Rattle.nb_history.specs.Rules.{wanted, is_behind, ready, footing, same_footi
 use Rattle.nb_history.specs.Log.{reading, IsQuiet}
 use Rattle.nb_resolve.specs.declared.resolution.Resolution.{Resolution}
 use Rattle.nb_resolve.specs.declared.resolution.Resolution.TheVariants.{Var, Builtin, Twice, Missing}
+use Rattle.nb_history.proofs.Lawful.{kept_now as keeps}
 use Rattle.nb_core.specs.State.{at as at_rows, sheet_of, shown_in, is_var_code, code_shows, ready_start, ready_in, started_in, IsState}
 use Rattle.nb_core.proofs.States.{of_log}
-use Rattle.nb_core.proofs.LocalAdds.{not_behind}
-use Rattle.nb_core.proofs.Begins.{calm_state}
+use Rattle.nb_history.proofs.Held.{free_from}
+use Rattle.nb_core.proofs.Begins.{calm_state, state_pulls, and_true}
+
+-- what isn't behind has its kept footing
+not_behind : (builtins : List (Field Value)) (rows : List VarRow) (starts : List (Option Start)) (v : ℕ) (s : Start) → nth starts v ≡ Some (Some s) → is_behind (at_rows builtins rows starts) v ≡ false → footing (at_rows builtins rows starts) v ≡ s.kept
+not_behind builtins rows starts v s there calm = sym (keeps (at_rows builtins rows starts) v s (ap (λ (z : Option (Option Start)). option_then z (λ s. s)) there) calm)
 
 -- ---- inputs by their numbers
 
@@ -66,8 +71,8 @@ module _ (builtins : List (Field Value)) (rows : List VarRow) (starts : List (Op
   pub same_inputs : (v : ℕ) (s : Start) → nth starts v ≡ Some (Some s) → s.kept.inputs ≡ map input_code (inputs (sheet_of builtins rows) v)
   same_inputs v s there = sym (ap (λ (f : Footing). f.inputs) (kept_now v s there))
 
-  abbrev ready_by : Option (Option Start) → Bool → Bool
-  ready_by z waits = from_option false (λ (s : Start). s.running) (option_then z (λ s. s)) && waits
+  abbrev ready_by : Option (Option Start) → Bool → Bool → Bool
+  ready_by z behind waits = from_option false (λ (s : Start). s.running) (option_then z (λ s. s)) && not behind && waits
 
   -- ready by what is kept
   pub ready_kept : (v : ℕ) → ready_in starts v ≡ ready (reading builtins log) v
@@ -76,17 +81,19 @@ module _ (builtins : List (Field Value)) (rows : List VarRow) (starts : List (Op
       go : (z : Option (Option Start)) → nth starts v ≡ z → ready_in starts v ≡ ready (at_rows builtins rows starts) v
       go None e =
           ap (λ (z : Option (Option Start)). from_option false (ready_start (shown_in starts)) (option_then z (λ s. s))) e
-          ∙ sym (ap (λ (z : Option (Option Start)). ready_by z (duplicate (sheet_of builtins rows) v || circular (sheet_of builtins rows) v || list_all (λ u. is_some (shown_in starts u)) (direct (sheet_of builtins rows) v))) e)
+          ∙ sym (ap (λ (z : Option (Option Start)). ready_by z (is_behind (at_rows builtins rows starts) v) (duplicate (sheet_of builtins rows) v || circular (sheet_of builtins rows) v || list_all (λ u. is_some (shown_in starts u)) (direct (sheet_of builtins rows) v))) e)
       go (Some None) e =
           ap (λ (z : Option (Option Start)). from_option false (ready_start (shown_in starts)) (option_then z (λ s. s))) e
-          ∙ sym (ap (λ (z : Option (Option Start)). ready_by z (duplicate (sheet_of builtins rows) v || circular (sheet_of builtins rows) v || list_all (λ u. is_some (shown_in starts u)) (direct (sheet_of builtins rows) v))) e)
+          ∙ sym (ap (λ (z : Option (Option Start)). ready_by z (is_behind (at_rows builtins rows starts) v) (duplicate (sheet_of builtins rows) v || circular (sheet_of builtins rows) v || list_all (λ u. is_some (shown_in starts u)) (direct (sheet_of builtins rows) v))) e)
       go (Some (Some s)) e =
           ap (λ (z : Option (Option Start)). from_option false (ready_start (shown_in starts)) (option_then z (λ s. s))) e
           ∙ ap (λ (b : Bool). s.running && (b || s.kept.is_circular || list_all (code_shows (shown_in starts)) s.kept.inputs)) (same_duplicate v s e)
           ∙ ap (λ (b : Bool). s.running && (duplicate (sheet_of builtins rows) v || b || list_all (code_shows (shown_in starts)) s.kept.inputs)) (same_circular v s e)
           ∙ ap (λ (xs : List ℕ). s.running && (duplicate (sheet_of builtins rows) v || circular (sheet_of builtins rows) v || list_all (code_shows (shown_in starts)) xs)) (same_inputs v s e)
           ∙ ap (λ (b : Bool). s.running && (duplicate (sheet_of builtins rows) v || circular (sheet_of builtins rows) v || b)) (by_codes (shown_in starts) (inputs (sheet_of builtins rows) v))
-          ∙ sym (ap (λ (z : Option (Option Start)). ready_by z (duplicate (sheet_of builtins rows) v || circular (sheet_of builtins rows) v || list_all (λ u. is_some (shown_in starts u)) (direct (sheet_of builtins rows) v))) e)
+          ∙ ap (λ (b : Bool). b && (duplicate (sheet_of builtins rows) v || circular (sheet_of builtins rows) v || list_all (λ u. is_some (shown_in starts u)) (direct (sheet_of builtins rows) v))) (sym (and_true s.running))
+          ∙ ap (λ (b : Bool). s.running && not b && (duplicate (sheet_of builtins rows) v || circular (sheet_of builtins rows) v || list_all (λ u. is_some (shown_in starts u)) (direct (sheet_of builtins rows) v))) (sym (calm_state builtins rows starts log state quiet v s e))
+          ∙ sym (ap (λ (z : Option (Option Start)). ready_by z (is_behind (at_rows builtins rows starts) v) (duplicate (sheet_of builtins rows) v || circular (sheet_of builtins rows) v || list_all (λ u. is_some (shown_in starts u)) (direct (sheet_of builtins rows) v))) e)
 
   -- exactly the wanted variables have a start
   pub wanted_started : (v : ℕ) → started_in starts v ≡ wanted (reading builtins log) v
@@ -96,7 +103,12 @@ module _ (builtins : List (Field Value)) (rows : List VarRow) (starts : List (Op
       now = subst IsQuiet state.stands quiet
 
       here : ((not (wanted (at_rows builtins rows starts) v) && not (is_idle (start_of (at_rows builtins rows starts) v))) ≡ false) × ((wanted (at_rows builtins rows starts) v && is_behind (at_rows builtins rows starts) v) ≡ false)
-      here = now v
+      here = (
+        (now v).0,
+        sym (and_true (wanted (at_rows builtins rows starts) v && is_behind (at_rows builtins rows starts) v))
+            ∙ ap (λ (b : Bool). wanted (at_rows builtins rows starts) v && is_behind (at_rows builtins rows starts) v && not b) (sym (free_from (of_log builtins rows starts log) (state_pulls builtins rows starts log state) v))
+            ∙ (now v).1,
+      )
 
       go : (w : Bool) (z : Option (Option Start)) → wanted (at_rows builtins rows starts) v ≡ w → nth starts v ≡ z
           → (not (wanted (at_rows builtins rows starts) v) && not (is_idle (start_of (at_rows builtins rows starts) v))) ≡ false

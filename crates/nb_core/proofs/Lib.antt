@@ -8,8 +8,6 @@ pub mod Cores
 pub mod Events
 pub mod GivenAt
 pub mod Kept
-pub mod LocalAdds
-pub mod Locals
 pub mod Rest
 pub mod Restores
 pub mod Runs

@@ -11,7 +11,7 @@ use Rattle.nb_history.specs.Log.{reading, nothing_yet, read_from, after, admit}
 use Rattle.nb_history.specs.Serial.{closing, least_var, Todo, SerialFrom, IsSerial}
 use Rattle.nb_history.specs.History.{History, standing}
 use Rattle.nb_history.proofs.Closing.{first_some}
-use Rattle.nb_history.proofs.Histories.{read_append, serial_append, closes_serial, ready_step, line_first, no_step}
+use Rattle.nb_history.proofs.Histories.{read_append, serial_append, closes_serial, ready_step, line_first, no_step, nothing_to_load}
 use Rattle.nb_core.specs.Core.{Gains, Settles}
 
 -- what the log has gained are the next entries of the serial history, whatever is still to come
@@ -104,4 +104,5 @@ run_ends builtins lines h r =
     record {
       steps = r.steps;
       ends = no_step (reading builtins h.log) [] (ap closing here ∙ r.closed) (ap (λ (q : Reading). least_var q (ready q)) here ∙ r.done);
+      loaded = nothing_to_load (reading builtins h.log);
     }

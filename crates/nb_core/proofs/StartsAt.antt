@@ -1,20 +1,35 @@
 -- The starts, and the first that may begin.
-use Rattle.std.proofs.Common.{inl, inr, ℕ, zero, suc, ◌≡◌, ◌+◌, ◌-◌, ◌<◌, ◌≤◌, refl, sym, ◌∙◌, ap, Bool, true, false, not, ◌||◌, List, ◌∷◌, length, get_or, arith, Option, Some, None}
+use Rattle.std.proofs.Common.{inl, inr, ℕ, zero, suc, ◌≡◌, ◌+◌, ◌-◌, ◌<◌, ◌≤◌, refl, sym, ◌∙◌, ap, Bool, true, false, cond, not, ◌||◌, List, [], ◌∷◌, map, length, get_or, arith, Option, Some, None}
 use Rattle.std.specs.Prelude.{IsTrue, ◌↔◌}
 use Rattle.std.proofs.lemmas.Bool.{cases_Bool, false≢true, false_from_ne_true, or_left, or_right}
 use Rattle.std.specs.List.{range_with_len, list_any}
 use Rattle.std.proofs.Common.{add-one}
 use Rattle.std.proofs.lemmas.Option.{none-some}
 use Rattle.nb_history.specs.Lists.{first_where}
+use Rattle.nb_sheet.specs.Sheet.{Sheet}
 use Rattle.nb_sheet.specs.Lists.{nth, from_option, option_then}
-use Rattle.nb_history.specs.Reading.{Reading, Start, Footing}
-use Rattle.nb_history.specs.Rules.{footing, is_behind, same_footing}
+use Rattle.nb_resolve.specs.Names.{inputs, direct, duplicate}
+use Rattle.nb_history.specs.Needs.{circular}
+use Rattle.nb_history.specs.Reading.{Reading, Start, Footing, number, renewal}
+use Rattle.nb_history.specs.Rules.{place_of, input_code, footing, is_behind, same_footing}
 use Rattle.nb_sheet.specs.declared.row.VarRow.{VarRow}
 use Rattle.nb_history.proofs.Footings.{same_footing_eq, same_footing_refl}
 use Rattle.nb_value.specs.declared.value.Value.{Value}
 use Rattle.nb_value.specs.declared.pairs.Field.{Field}
 use Rattle.nb_core.specs.State.{at}
 use Rattle.nb_core.proofs.Scans.{nth_at}
+
+-- what a variable rests on, by its parts
+pub footing_read : (r : Reading) (v place : ℕ) (twice marked : Bool) (is ss rs : List ℕ)
+    → place ≡ place_of r.sheet v → twice ≡ duplicate r.sheet v → marked ≡ circular r.sheet v → is ≡ map input_code (inputs r.sheet v)
+    → ss ≡ cond (circular r.sheet v) [] (map (number r) (direct r.sheet v)) → rs ≡ cond (circular r.sheet v) [] (map (renewal r) (direct r.sheet v))
+    → record { place = place; is_duplicate = twice; is_circular = marked; inputs = is; starts = ss; renewals = rs } ≡ footing r v
+footing_read r v place twice marked is ss rs a b c d e f =
+    λ i. record { place = a i; is_duplicate = b i; is_circular = c i; inputs = d i; starts = e i; renewals = f i }
+
+pub place_read : (s : Sheet) (v : ℕ) (row : VarRow) → 0 < v → v ≤ length s.rows → row ≡ get_or s.rows (v - 1) row → row.place ≡ place_of s v
+place_read s v row low high read =
+    sym (ap (λ (o : Option VarRow). from_option 0 (λ (x : VarRow). x.place) o) (nth_at s.rows v row low high ∙ ap (λ (x : VarRow). Some x) (sym read)))
 
 -- the test of two footings is what a comparison of them tells
 same_told : (f g : Footing) (b : Bool) → (IsTrue b ↔ (f ≡ g)) → b ≡ same_footing f g

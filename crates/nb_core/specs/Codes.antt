@@ -11,13 +11,13 @@ use Rattle.nb_history.specs.Reading.{Footing, Start}
 use Rattle.nb_history.specs.History.{History}
 
 abbrev pub FootingParts : Type 0
-FootingParts = ℕ × (Bool × (Bool × (List ℕ × List ℕ)))
+FootingParts = ℕ × (Bool × (Bool × (List ℕ × (List ℕ × List ℕ))))
 
 abbrev pub footing_code : Coded Footing
 footing_code =
-    code_by FootingParts (coded× coded_ℕ (coded× coded_bool (coded× coded_bool (coded× (coded_list coded_ℕ) (coded_list coded_ℕ)))))
-    (λ f. (f.place, (f.is_duplicate, (f.is_circular, (f.inputs, f.renewals)))))
-    (λ p. record { place = p.0; is_duplicate = p.1.0; is_circular = p.1.1.0; inputs = p.1.1.1.0; renewals = p.1.1.1.1 })
+    code_by FootingParts (coded× coded_ℕ (coded× coded_bool (coded× coded_bool (coded× (coded_list coded_ℕ) (coded× (coded_list coded_ℕ) (coded_list coded_ℕ))))))
+    (λ f. (f.place, (f.is_duplicate, (f.is_circular, (f.inputs, (f.starts, f.renewals))))))
+    (λ p. record { place = p.0; is_duplicate = p.1.0; is_circular = p.1.1.0; inputs = p.1.1.1.0; starts = p.1.1.1.1.0; renewals = p.1.1.1.1.1 })
     (λ _. refl)
 
 -- the numbers and truths of a start

@@ -23,7 +23,7 @@ use Rattle.nb_resolve.specs.declared.resolution.Resolution.{Resolution}
 use Rattle.nb_resolve.specs.Names.{inputs, direct, duplicate, variable_of}
 use Rattle.nb_history.specs.Needs.{circular, needed}
 use Rattle.nb_history.specs.Reading.{Reading, Start, start_of, is_idle, renewal, shown}
-use Rattle.nb_history.specs.Rules.{is_behind, footing, input_code, marked_error, local_value, evaluation, deciding_error}
+use Rattle.nb_history.specs.Rules.{is_behind, footing, input_code, evaluation, deciding_error}
 use Rattle.nb_history.specs.Log.{reading, IsLegal, IsQuiet, new_start}
 use Rattle.nb_history.specs.Serial.{closing, Closes}
 
@@ -179,17 +179,6 @@ pub record IsBare (n : ℕ) (s : Start) : Type 0 where
   pub ended : s.ended ≡ false
   pub fresh : s.running ≡ true → s.shown ≡ None
 
--- v shows its local value, and its inputs show something
-abbrev pub Local : List (Field Value) → List VarRow → List (Option Start) → ℕ → Type 0
-Local builtins rows starts v =
-    (marked_error (sheet_of builtins rows) v ≡ None → (u : ℕ) → has (direct (sheet_of builtins rows) v) u ≡ true → is_some (shown_in starts u) ≡ true)
-    × (shown_in starts v ≡ local_value (at builtins rows starts) (shown_in starts) v)
-
--- a variable that doesn't run and isn't behind shows its local value; and the bounds that this rests on
-pub record IsLocal (builtins : List (Field Value)) (rows : List VarRow) (starts : List (Option Start)) (n : ℕ) : Type 0 where
-  pub small : (v : ℕ) (s : Start) → nth starts v ≡ Some (Some s) → (s.renewal ≤ n) × ((x : ℕ) → has s.kept.renewals x ≡ true → x ≤ n)
-  pub shows : (v : ℕ) (s : Start) → nth starts v ≡ Some (Some s) → s.running ≡ false → is_behind (at builtins rows starts) v ≡ false → Local builtins rows starts v
-
 -- the rows and starts are those that the log leaves, and the log is legal
 pub record IsState (builtins : List (Field Value)) (rows : List VarRow) (starts : List (Option Start)) (log : List Entry) : Type 0 where
   pub stands : reading builtins log ≡ reading_of builtins rows starts (length log) (Reading.size (reading builtins log))
@@ -197,7 +186,6 @@ pub record IsState (builtins : List (Field Value)) (rows : List VarRow) (starts 
   pub plain : IsPlain rows
   pub bare : (v : ℕ) (s : Start) → nth starts v ≡ Some (Some s) → IsBare (length log) s
   pub same_len : length starts ≡ length rows
-  pub local : IsLocal builtins rows starts (length log)
 
 -- nothing is leaving or due
 abbrev pub IsQuietLog : List (Field Value) → List Entry → Type 0

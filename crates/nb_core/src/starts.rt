@@ -6,8 +6,9 @@ ghost use Rattle.nb_sheet.specs.Lists.{numbers};
 ghost use Rattle.nb_history.specs.Rules.{footing as footing_of, is_behind as is_behind_of};
 ghost use Rattle.nb_history.specs.Log.{new_start};
 ghost use Rattle.nb_history.specs.Needs.{needed};
-ghost use Rattle.nb_core.specs.State.{at, sheet_of, all_ties as ties_of_all, graph_of, is_marked, renewal_in, showing_start, may_begin as begins_of};
+ghost use Rattle.nb_core.specs.State.{at, sheet_of, all_ties as ties_of_all, graph_of, is_marked, number_in, renewal_in, showing_start, may_begin as begins_of};
 
+use crate::readiness::number;
 use crate::ties::{Ties, tied_at};
 use nb_graph::Graph;
 use nb_sheet::VarRow;
@@ -22,6 +23,7 @@ pub struct Kept {
     is_duplicate: bool,
     is_circular: bool,
     inputs: Vec<u64>,
+    starts: Vec<u64>,
     renewals: Vec<u64>,
 }
 
@@ -30,7 +32,7 @@ impl Model for Kept {
 
     ghost Value = { Footing };
 
-    ghost view = { λ k. record { place = k.place; is_duplicate = k.is_duplicate; is_circular = k.is_circular; inputs = k.inputs.items; renewals = k.renewals.items } };
+    ghost view = { λ k. record { place = k.place; is_duplicate = k.is_duplicate; is_circular = k.is_circular; inputs = k.inputs.items; starts = k.starts.items; renewals = k.renewals.items } };
 }
 
 fn same_numbers(xs: &[u64], ys: &[u64]) -> bool
@@ -69,8 +71,9 @@ impl Kept {
         let duplicates = self.is_duplicate == other.is_duplicate;
         let circulars = self.is_circular == other.is_circular;
         let inputs = same_numbers(&self.inputs, &other.inputs);
+        let starts = same_numbers(&self.starts, &other.starts);
         let renewals = same_numbers(&self.renewals, &other.renewals);
-        places & duplicates & circulars & inputs & renewals
+        places & duplicates & circulars & inputs & starts & renewals
     }
 }
 
@@ -185,6 +188,34 @@ fn input_renewals(
     }
 }
 
+/// The numbers of the starts of variables.
+fn numbers_of(
+    alloc: Global,
+    starts: &[Option<Started>],
+    vars: &[u32],
+) -> Result<Vec<u64>, AllocError>
+    ensures { IfOk result (λ found. found.items ≡ map (number_in starts.now) vars.now) }
+{
+    vars.iter().map(|u| number(starts, *u)).collect(alloc)
+}
+
+/// The numbers of the starts that a variable rests on.
+fn input_starts(
+    alloc: Global,
+    starts: &[Option<Started>],
+    vars: &[u32],
+    marked: bool,
+) -> Result<Vec<u64>, AllocError>
+    ensures { IfOk result (λ found. found.items ≡ cond marked [] (map (number_in starts.now) vars.now)) }
+{
+    if marked {
+        Ok(Vec::new(alloc))
+    } else {
+        let found = numbers_of(alloc, starts, vars)?;
+        Ok(found)
+    }
+}
+
 /// What a variable rests on now.
 pub fn footing(
     alloc: Global,
@@ -201,12 +232,14 @@ pub fn footing(
     let row = &rows[v as usize - 1];
     let own = tied_at(builtins, rows, ties, v);
     let inputs = Vec::from_slice(alloc, own.inputs())?;
+    let input_numbers = input_starts(alloc, starts, own.direct(), own.is_circular())?;
     let renewals = input_renewals(alloc, starts, own.direct(), own.is_circular())?;
     Ok(Kept {
         place: row.place,
         is_duplicate: own.is_duplicate(),
         is_circular: own.is_circular(),
         inputs,
+        starts: input_numbers,
         renewals,
     })
 }

@@ -1,7 +1,8 @@
 -- The induction over the syntax, once: what holds of each step and of steps in sequence holds of all that
 -- evaluation does, over one segment and over another.
-use Rattle.std.proofs.Common.{◌≡◌, ℕ, zero, suc, ◌+◌, Bool, true, false, ◌&&◌, List, [], ◌∷◌, ◌++◌, map, length, Option, Some, None, Ok, Err, refl, sym, ◌∙◌, subst, codes, take}
+use Rattle.std.proofs.Common.{◌≡◌, ℕ, zero, suc, ◌+◌, Bool, true, false, ◌&&◌, ◌||◌, List, [], ◌∷◌, ◌++◌, map, length, Option, Some, None, Ok, Err, refl, sym, ◌∙◌, subst, codes, take}
 use Rattle.std.specs.Prelude.{slice_set}
+use Rattle.std.proofs.lemmas.Bool.{or_parts}
 use Rattle.nb_value.specs.declared.value.Value.{Value, out-Value}
 use Rattle.nb_value.specs.declared.value.Value.TheOpen as value
 use Rattle.nb_value.specs.declared.value.Value.TheVariants as V
@@ -22,6 +23,7 @@ use Rattle.nb_syntax.specs.declared.tree.Block.{Block, ind-Block, fold_out-Block
 use Rattle.nb_syntax.specs.declared.tree.Body.{Body}
 use Rattle.nb_syntax.specs.declared.tree.Body.TheVariants as body
 use Rattle.nb_syntax.specs.Plain.{all_plain, expr_plain, path_step_plain, member_plain, operand_plain, stmt_plain, arm_plain, block_plain, body_plain, expr_step as plain_expr, path_step as plain_path, member_step as plain_member, operand_step as plain_operand, stmt_step as plain_stmt, arm_step as plain_arm, block_step as plain_block}
+use Rattle.nb_syntax.specs.Generator.{some_yield, stmt_yields, arm_yields, block_yields, yields as body_yields, stmt_step as yield_stmt, arm_step as yield_arm, block_step as yield_block}
 use Rattle.nb_builtins.specs.Apply.{called}
 use Rattle.nb_eval.specs.declared.given.Segment.{Segment}
 use Rattle.nb_eval.specs.declared.state.State.{State}
@@ -35,8 +37,8 @@ abbrev pub Claim : Type 1
 Claim = (A : Type 0) → State → Out A → Out A → Type 0
 
 -- Q holds of every step, and S, which is stronger, of what charges something; where `plain` is true, fetches, yields
--- and cleanups are left out
-pub record Closed (plain : Bool) (g g' : Segment) (Q S : Claim) : Type 1 where
+-- and cleanups are left out, and where `heard` is false, yields
+pub record Closed (plain heard : Bool) (g g' : Segment) (Q S : Claim) : Type 1 where
   pub weaken : (A : Type 0) (s : State) (o o' : Out A) → S A s o o' → Q A s o o'
   pub strong_charge : (n : ℕ) (s : State) → S (Unit {0}) s (charge (1 + n) s) (charge (1 + n) s)
   pub strong_left : (A B : Type 0) (p p' : Run A) (f f' : A → Run B) (s : State) → S A s (p s) (p' s) → ((a : A) (t : State) → Q B t (f a t) (f' a t)) → S B s ((p >>= f) s) ((p' >>= f') s)
@@ -47,7 +49,7 @@ pub record Closed (plain : Bool) (g g' : Segment) (Q S : Claim) : Type 1 where
   pub of_bind : (A B : Type 0) (p p' : Run A) (f f' : A → Run B) (s : State) → Q A s (p s) (p' s) → ((a : A) (t : State) → Q B t (f a t) (f' a t)) → Q B s ((p >>= f) s) ((p' >>= f') s)
   pub of_read : (name : List ℕ) (s : State) → Q Value s (read g name s) (read g' name s)
   pub of_locals : (ls : List (Field Value)) (s : State) → Q (Unit {0}) s (Ok tt, record s { locals = ls }) (Ok tt, record s { locals = ls })
-  pub of_yield : plain ≡ false → (v : Value) (s : State) → Q (Unit {0}) s (yielded g v s) (yielded g' v s)
+  pub of_yield : plain ≡ false → heard ≡ true → (v : Value) (s : State) → Q (Unit {0}) s (yielded g v s) (yielded g' v s)
   pub of_clean : plain ≡ false → (v : Value) (s : State) → Q (Unit {0}) s (cleaned v s) (cleaned v s)
   pub of_ask : plain ≡ false → (key : List ℕ) (s : State) → Q Value s (ask_text g key s) (ask_text g' key s)
 
@@ -65,7 +67,7 @@ Proved X P = (x : X) × P x
 abbrev bare_of : {X : Type 0} {P : X → Type 0} → Proved X P → X
 bare_of x = x.0
 
-module _ (plain : Bool) (g g' : Segment) (Q S : Claim) (c : Closed plain g g' Q S) where
+module _ (plain heard : Bool) (g g' : Segment) (Q S : Claim) (c : Closed plain heard g g' Q S) where
   -- at each state
   abbrev pub Both : (A : Type 0) → Run A → Run A → Type 0
   Both A p p' = (s : State) → Q A s (p s) (p' s)
@@ -89,6 +91,23 @@ module _ (plain : Bool) (g g' : Segment) (Q S : Claim) (c : Closed plain g g' Q 
       go : (b : Bool) → plain ≡ b → plain ≡ false
       go true e = let n : false ≡ true = h e in absurd (cc)
       go false e = e
+
+  -- and what is to yield nothing yields nothing
+  abbrev pub IsSilent : Bool → Type 0
+  IsSilent b = heard ≡ false → b ≡ false
+
+  silent_left : (a b : Bool) → IsSilent (a || b) → IsSilent a
+  silent_left a b h p = (or_parts a b (h p)).0
+
+  silent_right : (a b : Bool) → IsSilent (a || b) → IsSilent b
+  silent_right a b h p = (or_parts a b (h p)).1
+
+  is_heard : IsSilent true → heard ≡ true
+  is_heard h = go heard refl
+    where
+      go : (b : Bool) → heard ≡ b → heard ≡ true
+      go true e = e
+      go false e = let n : true ≡ false = h e in absurd (cc)
 
   pub weak : (A : Type 0) (p p' : Run A) → Strong A p p' → Both A p p'
   weak A p p' h s = c.weaken A s (p s) (p' s) (h s)
@@ -387,10 +406,10 @@ module _ (plain : Bool) (g g' : Segment) (Q S : Claim) (c : Closed plain g g' Q 
 
   module _ (of_loop : LoopToo) where
     abbrev pub BothStmt : Stmt → Type 0
-    BothStmt st = IsAllowed (stmt_plain st) → Both (Unit {0}) (act g st) (act g' st)
+    BothStmt st = IsAllowed (stmt_plain st) → IsSilent (stmt_yields st) → Both (Unit {0}) (act g st) (act g' st)
 
     abbrev pub BothBlock : Block → Type 0
-    BothBlock b = IsAllowed (block_plain b) → Both (Unit {0}) (act_block g b) (act_block g' b)
+    BothBlock b = IsAllowed (block_plain b) → IsSilent (block_yields b) → Both (Unit {0}) (act_block g b) (act_block g' b)
 
     abbrev pub BothArm : Arm → Type 0
     BothArm a = BothBlock a.body
@@ -401,22 +420,31 @@ module _ (plain : Bool) (g g' : Segment) (Q S : Claim) (c : Closed plain g g' Q 
     arm_plain_is : (a : Arm) → arm_plain a ≡ (expr_plain a.test && block_plain a.body)
     arm_plain_is a = fold_out-Arm Bool Bool Bool plain_stmt plain_arm plain_block a
 
+    arm_yields_is : (a : Arm) → arm_yields a ≡ block_yields a.body
+    arm_yields_is a = fold_out-Arm Bool Bool Bool yield_stmt yield_arm yield_block a
+
+    block_yields_is : (b : Block) → block_yields b ≡ some_yield (map stmt_yields b.stmts)
+    block_yields_is b = fold_out-Block Bool Bool Bool yield_stmt yield_arm yield_block b
+
     block_is : (given : Segment) (b : Block) → act_block given b ≡ scoped (in_order (map (act given) b.stmts))
     block_is given b = fold_out-Block Acts (Did × Acts) Acts (stmt_step given) (arm_step given) (block_step given) b
 
     block_plain_is : (b : Block) → block_plain b ≡ all_plain (map stmt_plain b.stmts)
     block_plain_is b = fold_out-Block Bool Bool Bool plain_stmt plain_arm plain_block b
 
-    both_in_order : (sts : List (Proved Stmt BothStmt)) → IsAllowed (all_plain (map stmt_plain (map bare_of sts))) → Both (Unit {0}) (in_order (map (act g) (map bare_of sts))) (in_order (map (act g') (map bare_of sts)))
-    both_in_order [] h s = c.of_pure (Unit {0}) tt s
-    both_in_order (x ∷ xs) h s =
+    both_in_order : (sts : List (Proved Stmt BothStmt)) → IsAllowed (all_plain (map stmt_plain (map bare_of sts))) → IsSilent (some_yield (map stmt_yields (map bare_of sts))) → Both (Unit {0}) (in_order (map (act g) (map bare_of sts))) (in_order (map (act g') (map bare_of sts)))
+    both_in_order [] h q s = c.of_pure (Unit {0}) tt s
+    both_in_order (x ∷ xs) h q s =
         let more = all_plain (map stmt_plain (map bare_of xs)) in
-        both_then (Unit {0}) (Unit {0}) (act g x.0) (act g' x.0) (λ _. in_order (map (act g) (map bare_of xs))) (λ _. in_order (map (act g') (map bare_of xs))) (x.1 (left_of (stmt_plain x.0) more h)) (λ _. both_in_order xs (right_of (stmt_plain x.0) more h)) s
+        let later = some_yield (map stmt_yields (map bare_of xs)) in
+        both_then (Unit {0}) (Unit {0}) (act g x.0) (act g' x.0) (λ _. in_order (map (act g) (map bare_of xs))) (λ _. in_order (map (act g') (map bare_of xs))) (x.1 (left_of (stmt_plain x.0) more h) (silent_left (stmt_yields x.0) later q)) (λ _. both_in_order xs (right_of (stmt_plain x.0) more h) (silent_right (stmt_yields x.0) later q)) s
 
-    both_ran : (arms : List (Proved Arm BothArm)) → IsAllowed (all_plain (map arm_plain (map bare_of arms))) → Both Bool (ran (map (arm g) (map bare_of arms))) (ran (map (arm g') (map bare_of arms)))
-    both_ran [] h s = c.of_pure Bool false s
-    both_ran (a ∷ arms) h s =
+    both_ran : (arms : List (Proved Arm BothArm)) → IsAllowed (all_plain (map arm_plain (map bare_of arms))) → IsSilent (some_yield (map arm_yields (map bare_of arms))) → Both Bool (ran (map (arm g) (map bare_of arms))) (ran (map (arm g') (map bare_of arms)))
+    both_ran [] h q s = c.of_pure Bool false s
+    both_ran (a ∷ arms) h q s =
         let more = all_plain (map arm_plain (map bare_of arms)) in
+        let later = some_yield (map arm_yields (map bare_of arms)) in
+        let quiet : IsSilent (block_yields a.0.body) = λ p. sym (arm_yields_is a.0) ∙ silent_left (arm_yields a.0) later q p in
         let here : IsAllowed (expr_plain a.0.test && block_plain a.0.body) = λ p. sym (arm_plain_is a.0) ∙ left_of (arm_plain a.0) more h p in
         let b = act_block g a.0.body in
         let b' = act_block g' a.0.body in
@@ -426,20 +454,20 @@ module _ (plain : Bool) (g g' : Segment) (Q S : Claim) (c : Closed plain g g' Q 
         (both_then Bool Bool (eval g a.0.test >>= as_truth (codes "if")) (eval g' a.0.test >>= as_truth (codes "if")) (either (b >> pure true) others) (either (b' >> pure true) others')
         (both_test (codes "if") a.0.test (both_eval a.0.test) (left_of (expr_plain a.0.test) (block_plain a.0.body) here))
         (both_either Bool (b >> pure true) (b' >> pure true) others others'
-        (both_then (Unit {0}) Bool b b' (λ _. pure true) (λ _. pure true) (a.1 (right_of (expr_plain a.0.test) (block_plain a.0.body) here)) (λ _. both_pure Bool true))
-        (both_ran arms (right_of (arm_plain a.0) more h)))
+        (both_then (Unit {0}) Bool b b' (λ _. pure true) (λ _. pure true) (a.1 (right_of (expr_plain a.0.test) (block_plain a.0.body) here) quiet) (λ _. both_pure Bool true))
+        (both_ran arms (right_of (arm_plain a.0) more h) (silent_right (arm_yields a.0) later q)))
         s)
 
-    both_choose : (arms : List (Proved Arm BothArm)) → IsAllowed (all_plain (map arm_plain (map bare_of arms))) → (o o' : Option Acts) → Both (Unit {0}) (or_skip o) (or_skip o') → Both (Unit {0}) (tick >> choose (map (arm g) (map bare_of arms)) o) (tick >> choose (map (arm g') (map bare_of arms)) o')
-    both_choose arms h o o' ho =
+    both_choose : (arms : List (Proved Arm BothArm)) → IsAllowed (all_plain (map arm_plain (map bare_of arms))) → IsSilent (some_yield (map arm_yields (map bare_of arms))) → (o o' : Option Acts) → Both (Unit {0}) (or_skip o) (or_skip o') → Both (Unit {0}) (tick >> choose (map (arm g) (map bare_of arms)) o) (tick >> choose (map (arm g') (map bare_of arms)) o')
+    both_choose arms h q o o' ho =
         both_then (Unit {0}) (Unit {0}) tick tick (λ _. choose (map (arm g) (map bare_of arms)) o) (λ _. choose (map (arm g') (map bare_of arms)) o') both_tick
-        (λ _. both_then Bool (Unit {0}) (ran (map (arm g) (map bare_of arms))) (ran (map (arm g') (map bare_of arms))) (either (pure tt) (or_skip o)) (either (pure tt) (or_skip o')) (both_ran arms h) (both_either (Unit {0}) (pure tt) (pure tt) (or_skip o) (or_skip o') (both_pure (Unit {0}) tt) ho))
+        (λ _. both_then Bool (Unit {0}) (ran (map (arm g) (map bare_of arms))) (ran (map (arm g') (map bare_of arms))) (either (pure tt) (or_skip o)) (either (pure tt) (or_skip o')) (both_ran arms h q) (both_either (Unit {0}) (pure tt) (pure tt) (or_skip o) (or_skip o') (both_pure (Unit {0}) tt) ho))
 
     at_block : (sts : List (Proved Stmt BothStmt)) → BothBlock (record { stmts = map bare_of sts })
-    at_block sts h =
+    at_block sts h q =
         let b : Block = record { stmts = map bare_of sts } in
         rw (block_is g b, block_is g' b)
-        (both_scoped (in_order (map (act g) (map bare_of sts))) (in_order (map (act g') (map bare_of sts))) (both_in_order sts (λ p. sym (block_plain_is b) ∙ h p)))
+        (both_scoped (in_order (map (act g) (map bare_of sts))) (in_order (map (act g') (map bare_of sts))) (both_in_order sts (λ p. sym (block_plain_is b) ∙ h p) (λ p. sym (block_yields_is b) ∙ q p)))
 
     abbrev pub StmtLayer : Type 0
     StmtLayer = level.Stmt-F (Proved Stmt BothStmt) (Proved Arm BothArm) (Proved Block BothBlock)
@@ -459,39 +487,46 @@ module _ (plain : Bool) (g g' : Segment) (Q S : Claim) (c : Closed plain g g' Q 
     stmt_plain_roll : (x : level.Stmt-F Stmt Arm Block) → stmt_plain (roll-Stmt x) ≡ plain_stmt (stmt_plains x)
     stmt_plain_roll x = fold-roll-Stmt Bool Bool Bool plain_stmt plain_arm plain_block x
 
-    at_level : (y : StmtLayer) → IsAllowed (plain_stmt (stmt_plains (bare_stmt y))) → Both (Unit {0}) (stmt_step g (acts g (bare_stmt y))) (stmt_step g' (acts g' (bare_stmt y)))
-    at_level (level.Let n e) h s = both_use (Unit {0}) e h (keep n) (keep n) (both_keep n) s
-    at_level (level.Assign n e) h s = both_use (Unit {0}) e h (assign n) (assign n) (λ v u. both_assign_at (place n u.locals) n v u) s
-    at_level (level.If arms None) h s =
-        both_choose arms (left_of (all_plain (map arm_plain (map bare_of arms))) true h) None None (both_pure (Unit {0}) tt) s
-    at_level (level.If arms (Some b)) h s =
+    abbrev stmt_silences : level.Stmt-F Stmt Arm Block → level.Stmt-F Bool Bool Bool
+    stmt_silences = map-Stmt Stmt Arm Block Bool Bool Bool stmt_yields arm_yields block_yields
+
+    stmt_yields_roll : (x : level.Stmt-F Stmt Arm Block) → stmt_yields (roll-Stmt x) ≡ yield_stmt (stmt_silences x)
+    stmt_yields_roll x = fold-roll-Stmt Bool Bool Bool yield_stmt yield_arm yield_block x
+
+    at_level : (y : StmtLayer) → IsAllowed (plain_stmt (stmt_plains (bare_stmt y))) → IsSilent (yield_stmt (stmt_silences (bare_stmt y))) → Both (Unit {0}) (stmt_step g (acts g (bare_stmt y))) (stmt_step g' (acts g' (bare_stmt y)))
+    at_level (level.Let n e) h q s = both_use (Unit {0}) e h (keep n) (keep n) (both_keep n) s
+    at_level (level.Assign n e) h q s = both_use (Unit {0}) e h (assign n) (assign n) (λ v u. both_assign_at (place n u.locals) n v u) s
+    at_level (level.If arms None) h q s =
+        both_choose arms (left_of (all_plain (map arm_plain (map bare_of arms))) true h) (silent_left (some_yield (map arm_yields (map bare_of arms))) false q) None None (both_pure (Unit {0}) tt) s
+    at_level (level.If arms (Some b)) h q s =
         let here = all_plain (map arm_plain (map bare_of arms)) in
-        both_choose arms (left_of here (block_plain b.0) h) (Some (act_block g b.0)) (Some (act_block g' b.0)) (b.1 (right_of here (block_plain b.0) h)) s
-    at_level (level.While e b) h s =
+        let silent = some_yield (map arm_yields (map bare_of arms)) in
+        both_choose arms (left_of here (block_plain b.0) h) (silent_left silent (block_yields b.0) q) (Some (act_block g b.0)) (Some (act_block g' b.0)) (b.1 (right_of here (block_plain b.0) h) (silent_right silent (block_yields b.0) q)) s
+    at_level (level.While e b) h q s =
         both_then (Unit {0}) (Unit {0}) tick tick (λ _. loop g (eval g e) (act_block g b.0)) (λ _. loop g' (eval g' e) (act_block g' b.0)) both_tick
-        (λ _. of_loop (eval g e) (eval g' e) (act_block g b.0) (act_block g' b.0) (both_eval e (left_of (expr_plain e) (block_plain b.0) h)) (b.1 (right_of (expr_plain e) (block_plain b.0) h))) s
-    at_level (level.For n e b) h s =
+        (λ _. of_loop (eval g e) (eval g' e) (act_block g b.0) (act_block g' b.0) (both_eval e (left_of (expr_plain e) (block_plain b.0) h)) (b.1 (right_of (expr_plain e) (block_plain b.0) h) q)) s
+    at_level (level.For n e b) h q s =
         let make : Value → Run (List Value) = λ v. lift (items_of (codes "for") v) in
         both_then (List Value) (Unit {0}) (tick >> eval g e >>= make) (tick >> eval g' e >>= make) (each n (act_block g b.0)) (each n (act_block g' b.0))
         (both_use (List Value) e (left_of (expr_plain e) (block_plain b.0) h) make make (λ v. both_lift (List Value) (items_of (codes "for") v)))
-        (both_each n (act_block g b.0) (act_block g' b.0) (b.1 (right_of (expr_plain e) (block_plain b.0) h)))
+        (both_each n (act_block g b.0) (act_block g' b.0) (b.1 (right_of (expr_plain e) (block_plain b.0) h) q))
         s
-    at_level (level.Yield e) h s =
+    at_level (level.Yield e) h q s =
         let p = not_plain h in
-        both_use (Unit {0}) e (λ t. absurd (cc)) (yielded g) (yielded g') (c.of_yield p) s
-    at_level (level.Return e) h s = both_use (Unit {0}) e h (λ v. stop (stops.Done v)) (λ v. stop (stops.Done v)) c.of_return s
-    at_level (level.Throw e) h s = both_use (Unit {0}) e h (λ v. lift (thrown v)) (λ v. lift (thrown v)) (λ v. both_lift (Unit {0}) (thrown v)) s
-    at_level (level.Cleanup e) h s =
+        both_use (Unit {0}) e (λ t. absurd (cc)) (yielded g) (yielded g') (c.of_yield p (is_heard q)) s
+    at_level (level.Return e) h q s = both_use (Unit {0}) e h (λ v. stop (stops.Done v)) (λ v. stop (stops.Done v)) c.of_return s
+    at_level (level.Throw e) h q s = both_use (Unit {0}) e h (λ v. lift (thrown v)) (λ v. lift (thrown v)) (λ v. both_lift (Unit {0}) (thrown v)) s
+    at_level (level.Cleanup e) h q s =
         let p = not_plain h in
         both_use (Unit {0}) e (λ t. absurd (cc)) cleaned cleaned (c.of_clean p) s
 
     pub both_block : (b : Block) → BothBlock b
     both_block = ind-Block BothStmt BothArm BothBlock
-        (λ x y is. subst (λ z. BothStmt (roll-Stmt z)) is (rw (act_roll g (bare_stmt y), act_roll g' (bare_stmt y), stmt_plain_roll (bare_stmt y)) (at_level y)))
+        (λ x y is. subst (λ z. BothStmt (roll-Stmt z)) is (rw (act_roll g (bare_stmt y), act_roll g' (bare_stmt y), stmt_plain_roll (bare_stmt y), stmt_yields_roll (bare_stmt y)) (at_level y)))
         (λ x y is. subst (λ z. BothArm (roll-Arm z)) is y.body.1)
         (λ x y is. subst (λ z. BothBlock (roll-Block z)) is (at_block y.stmts))
 
     -- what a cell computes
-    pub both_body : (b : Body) → IsAllowed (body_plain b) → Both Value (eval_body g b) (eval_body g' b)
-    both_body (body.Expr e) h = both_expr e h
-    both_body (body.Block b) h = both_then (Unit {0}) Value (act_block g b) (act_block g' b) (λ _. pure V.Null) (λ _. pure V.Null) (both_block b h) (λ _. both_pure Value V.Null)
+    pub both_body : (b : Body) → IsAllowed (body_plain b) → IsSilent (body_yields b) → Both Value (eval_body g b) (eval_body g' b)
+    both_body (body.Expr e) h q = both_expr e h
+    both_body (body.Block b) h q = both_then (Unit {0}) Value (act_block g b) (act_block g' b) (λ _. pure V.Null) (λ _. pure V.Null) (both_block b h q) (λ _. both_pure Value V.Null)

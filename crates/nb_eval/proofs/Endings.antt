@@ -58,7 +58,7 @@ quiet_if A s true x y hx hy = hx
 quiet_if A s false x y hx hy = hy
 
 module _ (g : Segment) where
-  closed : Closed true g g IsQuiet IsQuiet
+  closed : Closed true true g g IsQuiet IsQuiet
   closed = record {
     weaken = λ A s o o' h. h;
     strong_charge = λ n s. quiet_if (Unit {0}) s (nat_lt s.fuel (1 + n)) _ _ (tt, record { yields = refl; cleanups = refl }) (tt, record { yields = refl; cleanups = refl });
@@ -70,16 +70,16 @@ module _ (g : Segment) where
     of_bind = λ A B p p' f f' s hp hf. bind A B f s (p s).1 (p s).0 hp.0 hp.1 hf;
     of_read = λ name s. (tt, stays s);
     of_locals = λ ls s. (tt, record { yields = refl; cleanups = refl });
-    of_yield = λ p. absurd (cc);
+    of_yield = λ p q. absurd (cc);
     of_clean = λ p. absurd (cc);
     of_ask = λ p. absurd (cc);
   }
 
   loop_too : (t t' : Did) (b b' : Acts) → ((s : State) → IsQuiet Value s (t s) (t' s)) → ((s : State) → IsQuiet (Unit {0}) s (b s) (b' s)) → (s : State) → IsQuiet (Unit {0}) s (loop g t b s) (loop g t' b' s)
-  loop_too t t' b b' ht hb s = both_turns true g g IsQuiet IsQuiet closed (suc (budget g s)) t t' b b' ht hb s
+  loop_too t t' b b' ht hb s = both_turns true true g g IsQuiet IsQuiet closed (suc (budget g s)) t t' b b' ht hb s
 
   pub plain_run : is_plain g.cell ≡ true → IsQuiet Value start_state (run g) (run g)
-  plain_run h = both_body true g g IsQuiet IsQuiet closed loop_too g.cell.body (λ p. h) start_state
+  plain_run h = both_body true true g g IsQuiet IsQuiet closed loop_too g.cell.body (λ p. h) (λ p. absurd (cc)) start_state
 
 well_if : (b : Bool) (x y : Ending) → EndsWell x → EndsWell y → EndsWell (if b then x else y)
 well_if true x y hx hy = hx

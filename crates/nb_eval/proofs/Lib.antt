@@ -1,9 +1,9 @@
-mod Laws
+pub mod Laws
 mod Turns
 mod Lasts
 mod Calls
 pub mod Closed
-mod Few
+pub mod Yields
 pub mod Endings
 pub mod Spending
 pub mod MoreAnswers

@@ -130,7 +130,7 @@ module _ (g : Segment) (more : List Answer) where
       (record { yields = prefix_refl Value s.yields; cleanups = (v ∷ [], refl); charges = omega arith })
       (grown_refl s)))
 
-  closed : Closed false g with_more Extends Extends
+  closed : Closed false true g with_more Extends Extends
   closed = record {
     of_pure = λ A a s. same A s (Ok a, s) (grown_refl s);
     of_failure = λ A e s. same A s _ (grown_refl s);
@@ -142,17 +142,17 @@ module _ (g : Segment) (more : List Answer) where
     strong_right = λ A B p p' f f' s hp hf. bind A B f f' hf s (p s) (p' s) hp;
     of_read = λ name s. same _ s (read g name s) (grown_refl s);
     of_locals = λ ls s. same (Unit {0}) s (Ok tt, record s { locals = ls }) (grown_same s (record s { locals = ls }) refl refl refl);
-    of_yield = λ p. of_yield;
+    of_yield = λ p q. of_yield;
     of_clean = λ p. of_clean;
     of_ask = λ p. of_ask;
   }
 
   loop_too : (t t' : Did) (b b' : Acts) → ((s : State) → Extends Value s (t s) (t' s)) → ((s : State) → Extends (Unit {0}) s (b s) (b' s)) → (s : State) → Extends (Unit {0}) s (loop g t b s) (loop with_more t' b' s)
-  loop_too t t' b b' ht hb s = both_turns false g with_more Extends Extends closed (suc (budget g s)) t t' b b' ht hb s
+  loop_too t t' b b' ht hb s = both_turns false true g with_more Extends Extends closed (suc (budget g s)) t t' b b' ht hb s
 
   -- the law
   pub more_answers : (b : Body) (s : State) → Extends Value s (eval_body g b s) (eval_body with_more b s)
-  more_answers b s = both_body false g with_more Extends Extends closed loop_too b (λ p. absurd (cc)) s
+  more_answers b s = both_body false true g with_more Extends Extends closed loop_too b (λ p. absurd (cc)) (λ p. absurd (cc)) s
 
 -- a charge, a cleanup and a fetch only extend
 pub extends_charge : (n : ℕ) (s : State) → Grown s (charge n s).1

@@ -77,7 +77,7 @@ module _ (g : Segment) (most : ℕ) (le : g.pulls ≤ most) where
       extends_if (Unit {0}) s (nat_lt 16384 (size v)) _ _ _ _ (same (Unit {0}) s _ (grown_refl s))
       (after_grown (Unit {0}) s t _ _ grown (by_pulls t (nat_lt (length t.yields) g.pulls) (nat_lt (length t.yields) most) refl refl))
 
-  pub closed : Closed false g with_pulls Weak Strong
+  pub closed : Closed false true g with_pulls Weak Strong
   closed =
       let pays = paying.closed g in
       record {
@@ -91,7 +91,7 @@ module _ (g : Segment) (most : ℕ) (le : g.pulls ≤ most) where
         of_bind = λ A B p p' f f' s hp hf. (bind A B f f' (λ a t. (hf a t).0) s (p s) (p' s) hp.0, pays.of_bind A B p p f f s hp.1 (λ a t. (hf a t).1));
         of_read = λ name s. (same Value s (read g name s) (grown_refl s), pays.of_read name s);
         of_locals = λ ls s. (same (Unit {0}) s (Ok tt, record s { locals = ls }) (grown_same s (record s { locals = ls }) refl refl refl), pays.of_locals ls s);
-        of_yield = λ p v s. (of_yield v s, pays.of_yield p v s);
+        of_yield = λ p q v s. (of_yield v s, pays.of_yield p q v s);
         of_clean = λ p v s. (same (Unit {0}) s (cleaned v s) (extends_clean g v s), pays.of_clean p v s);
         of_ask = λ p key s. (same Value s (ask_text g key s) (extends_ask g key s), pays.of_ask p key s);
       }
@@ -107,8 +107,8 @@ module _ (g : Segment) (most : ℕ) (le : g.pulls ≤ most) where
       (λ x y e. let p = paying.went g (Unit {0}) (paying.Pays g x) (b x) tt y e (hb x).1 in omega (arith, p.0, p.1))
       n (suc (budget g s)) s (omega (arith, fewer s)) (omega arith) in
       subst (λ (o : Out (Unit {0})). Weak (Unit {0}) s o (loop with_pulls t' b' s)) raise
-      (both_turns false g with_pulls Weak Strong closed n t t' b b' (λ x. closed.weaken Value x (t x) (t' x) (ht x)) hb s)
+      (both_turns false true g with_pulls Weak Strong closed n t t' b b' (λ x. closed.weaken Value x (t x) (t' x) (ht x)) hb s)
 
   -- the law
   pub more_pulls : (b : Body) (s : State) → Extends Value s (eval_body g b s) (eval_body with_pulls b s)
-  more_pulls b s = (both_body false g with_pulls Weak Strong closed loop_too b (λ p. absurd (cc)) s).0
+  more_pulls b s = (both_body false true g with_pulls Weak Strong closed loop_too b (λ p. absurd (cc)) (λ p. absurd (cc)) s).0

@@ -105,7 +105,7 @@ module _ (g : Segment) where
       if_case Value (λ o. WentTo Value (Pays s) o.0 o.1) (nat_lt 1024 (1 + length key)) _ _ (λ e. tt)
       (λ e. if_case Value (λ o. WentTo Value (Pays s) o.0 o.1) (nat_lt s.fetches 64) _ _ (λ f. of_answer (slice_get g.answers s.taken) key s) (λ f. tt))
 
-  pub closed : Closed false g g Weak Strong
+  pub closed : Closed false true g g Weak Strong
   closed = record {
     weaken = λ A s o o' h. weaken A s o.1 o.0 h;
     strong_charge = strong_charge;
@@ -117,7 +117,7 @@ module _ (g : Segment) where
     of_bind = λ A B p p' f f' s hp hf. bind A B f s (p s).1 (p s).0 hp hf;
     of_read = λ name s. (omega arith, omega arith);
     of_locals = λ ls s. (omega arith, omega arith);
-    of_yield = λ p. of_yield;
+    of_yield = λ p q. of_yield;
     of_clean = λ p. of_clean;
     of_ask = λ p. of_ask;
   }
@@ -127,13 +127,13 @@ module _ (g : Segment) where
 
   -- a loop keeps to it too
   loop_too : (t t' : Did) (b b' : Acts) → ((s : State) → Strong Value s (t s) (t' s)) → ((s : State) → Weak (Unit {0}) s (b s) (b' s)) → (s : State) → Weak (Unit {0}) s (loop g t b s) (loop g t' b' s)
-  loop_too t t' b b' ht hb s = both_turns false g g Weak Strong closed (suc (budget g s)) t t' b b' (λ u. weaken Value u (t u).1 (t u).0 (ht u)) hb s
+  loop_too t t' b b' ht hb s = both_turns false true g g Weak Strong closed (suc (budget g s)) t t' b b' (λ u. weaken Value u (t u).1 (t u).0 (ht u)) hb s
 
   pub eval_pays : (e : Expr) (s : State) → WentTo Value (PaysMore s) (eval g e s).0 (eval g e s).1
-  eval_pays e s = both_eval false g g Weak Strong closed e (λ p. absurd (cc)) s
+  eval_pays e s = both_eval false true g g Weak Strong closed e (λ p. absurd (cc)) s
 
   pub block_pays : (b : Block) (s : State) → WentTo (Unit {0}) (Pays s) (act_block g b s).0 (act_block g b s).1
-  block_pays b s = both_block false g g Weak Strong closed loop_too b (λ p. absurd (cc)) s
+  block_pays b s = both_block false true g g Weak Strong closed loop_too b (λ p. absurd (cc)) (λ p. absurd (cc)) s
 
   pub eval_less : (e : Expr) (s t : State) (v : Value) → eval g e s ≡ the_out Value v t → budget g t < budget g s
   eval_less e s t v h = let p = went Value (PaysMore s) (eval g e s) v t h (eval_pays e s) in omega (arith, p.0, p.1)

@@ -3,7 +3,7 @@ use Rattle.std.specs.Prelude.{ℕ, ℤ, pos, ◌≡◌, refl, Bool, ◌+◌, Lis
 use Rattle.nb_log.specs.Printing.{entry_size, kind_name}
 use Rattle.nb_syntax.specs.Print.{cell_text}
 use Rattle.nb_value.specs.declared.outcome.ErrorKind.{ErrorKind}
-use Rattle.nb_sheet.specs.declared.edit.Edit.TheVariants.{AddCell, Define, Delete}
+use Rattle.nb_sheet.specs.declared.edit.Edit.TheVariants.{AddCell, Define}
 use Rattle.nb_log.specs.declared.entry.Entry.TheVariants.{Edit, Pending, Fulfilled, Rejected, Left}
 use Rattle.std.proofs.Common.{arith, ap, sym, ◌∙◌}
 use Rattle.nb_value.specs.declared.value.Value.{Value}
@@ -100,7 +100,3 @@ size_add c b = rw (size_list) (simp (size_rec, size_text, size_int, size_bool) (
 pub size_define : (v : ℕ) (c : Cell) → entry_size (Edit 0 (Define v c)) ≡ 34 + length (cell_text c)
 unfolding entry_size
 size_define v c = rw (size_list) (simp (size_rec, size_text, size_int) (omega arith))
-
-pub size_delete : (v : ℕ) → entry_size (Edit 0 (Delete v)) ≡ 28
-unfolding entry_size
-size_delete v = rw (size_list) (simp (size_rec, size_text, size_int))

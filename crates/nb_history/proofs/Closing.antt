@@ -2,15 +2,15 @@
 use Rattle.std.proofs.Common.{ℕ, zero, suc, ◌≡◌, ◌≢◌, ◌+◌, ◌<◌, ◌≤◌, refl, sym, ◌∙◌, ap, subst, Bool, true, false, cond, not, ◌&&◌, ◌||◌, ◌⊎◌, inl, inr, ltb, List, [], ◌∷◌, map, length, arith, Option, Some, None, is_some}
 use Rattle.std.specs.Prelude.{slice_get}
 use Rattle.std.specs.List.{list_any, range_with_len}
-use Rattle.std.proofs.lemmas.Bool.{or_cases, or_left, or_right, and_parts, and_from, and_right, cases_Bool, cases_eq, cases_lt, false≢true, false_from_ne_true, not-true}
+use Rattle.std.proofs.lemmas.Bool.{or_cases, or_left, or_right, and_parts, and_from, cases_Bool, cases_eq, cases_lt, false≢true, false_from_ne_true, not-true}
 use Rattle.nb_graph.specs.Needs.{has}
 use Rattle.nb_sheet.specs.Lists.{nth, put, put_at, numbers, from_option, option_then}
 use Rattle.nb_history.specs.Lists.{first_where}
 use Rattle.nb_sheet.specs.Sheet.{Sheet}
 use Rattle.nb_resolve.specs.Names.{direct, duplicate, inputs}
 use Rattle.nb_history.specs.Needs.{circular, needed, needs, is_used, is_defined, is_observed, is_root}
-use Rattle.nb_history.specs.Reading.{Reading, Start, Footing, start_of, is_idle, renewal, owed}
-use Rattle.nb_history.specs.Rules.{place_of, footing, same_footing, wanted, leaving, is_behind, due, may_start, input_code}
+use Rattle.nb_history.specs.Reading.{Reading, Start, Footing, start_of, is_idle, number, renewal, owed}
+use Rattle.nb_history.specs.Rules.{place_of, footing, same_footing, wanted, leaving, is_behind, is_held, due, may_start, input_code}
 use Rattle.nb_history.specs.Log.{after, new_start, IsQuiet}
 use Rattle.nb_history.specs.Serial.{least_var, closing}
 use Rattle.nb_value.specs.declared.value.Value.{Value}
@@ -123,14 +123,15 @@ first_none test (x ∷ xs) h v k =
 abbrev pub Shaped : Reading → Type 0
 Shaped r = length r.starts ≡ length r.sheet.rows
 
--- v rests on these renewals alone
-abbrev pub footing_by : Sheet → (ℕ → ℕ) → ℕ → Footing
-footing_by s renewed v =
+-- v rests on these start numbers and renewals alone
+abbrev pub footing_by : Sheet → (ℕ → ℕ) → (ℕ → ℕ) → ℕ → Footing
+footing_by s numbered renewed v =
     record {
       place = place_of s v;
       is_duplicate = duplicate s v;
       is_circular = circular s v;
       inputs = map input_code (inputs s v);
+      starts = cond (circular s v) [] (map numbered (direct s v));
       renewals = cond (circular s v) [] (map renewed (direct s v));
     }
 
@@ -140,25 +141,39 @@ map_agree f g (x ∷ xs) h =
     let e : f x ≡ g x = h x (has_head x xs x refl) in
     let t : map f xs ≡ map g xs = map_agree f g xs (λ y k. h y (has_tail x xs y k)) in cc
 
-pub footing_agree : (s : Sheet) (f g : ℕ → ℕ) (v : ℕ) → (circular s v ≡ false → (x : ℕ) → has (direct s v) x ≡ true → f x ≡ g x) → footing_by s f v ≡ footing_by s g v
-footing_agree s f g v h =
-    let e : cond (circular s v) [] (map f (direct s v)) ≡ cond (circular s v) [] (map g (direct s v)) =
-    elim (cases_Bool (circular s v)) [ inl c ↦ rw c refl | inr c ↦ rw c (map_agree f g (direct s v) (h c)) ] in
-    ap (λ (x : List ℕ). record { place = place_of s v; is_duplicate = duplicate s v; is_circular = circular s v; inputs = map input_code (inputs s v); renewals = x }) e
+-- the two agree on what an unmarked v rests on
+abbrev pub AgreeAt : Sheet → ℕ → (ℕ → ℕ) → (ℕ → ℕ) → Type 0
+AgreeAt s v f g = circular s v ≡ false → (x : ℕ) → has (direct s v) x ≡ true → f x ≡ g x
+
+inputs_agree : (s : Sheet) (f g : ℕ → ℕ) (v : ℕ) → AgreeAt s v f g → cond (circular s v) [] (map f (direct s v)) ≡ cond (circular s v) [] (map g (direct s v))
+inputs_agree s f g v h =
+    elim (cases_Bool (circular s v)) [ inl c ↦ rw c refl | inr c ↦ rw c (map_agree f g (direct s v) (h c)) ]
+
+-- the base alone
+pub base_agree : (s : Sheet) (m n f : ℕ → ℕ) (v : ℕ) → AgreeAt s v m n → footing_by s m f v ≡ footing_by s n f v
+base_agree s m n f v h =
+    ap (λ (x : List ℕ). record { place = place_of s v; is_duplicate = duplicate s v; is_circular = circular s v; inputs = map input_code (inputs s v); starts = x; renewals = cond (circular s v) [] (map f (direct s v)) })
+    (inputs_agree s m n v h)
+
+pub footing_agree : (s : Sheet) (m n f g : ℕ → ℕ) (v : ℕ) → AgreeAt s v m n → AgreeAt s v f g → footing_by s m f v ≡ footing_by s n g v
+footing_agree s m n f g v h k =
+    base_agree s m n f v h
+    ∙ ap (λ (x : List ℕ). record { place = place_of s v; is_duplicate = duplicate s v; is_circular = circular s v; inputs = map input_code (inputs s v); starts = cond (circular s v) [] (map n (direct s v)); renewals = x })
+    (inputs_agree s f g v k)
 
 -- whether a start with this footing now is behind
 abbrev pub behind_by : Footing → Option Start → Bool
 behind_by f o = from_option true (λ (s : Start). not (same_footing f s.kept)) o
 
 module _ (r : Reading) (u : ℕ) (d : List Value) where
-  pub pended : Reading
-  pended = after r (Pending u d)
-
-  start_other : (v : ℕ) → u ≢ v → start_of (after r (Pending u d)) v ≡ start_of r v
+  pub start_other : (v : ℕ) → u ≢ v → start_of (after r (Pending u d)) v ≡ start_of r v
   start_other v h = ap (λ (o : Option (Option Start)). option_then o (λ s. s)) (nth_put_other r.starts u v (Some (new_start (r.entries + 1) (footing r u))) h)
 
-  start_self : (o : Option Start) → nth r.starts u ≡ Some o → start_of (after r (Pending u d)) u ≡ Some (new_start (r.entries + 1) (footing r u))
+  pub start_self : (o : Option Start) → nth r.starts u ≡ Some o → start_of (after r (Pending u d)) u ≡ Some (new_start (r.entries + 1) (footing r u))
   start_self o h = ap (λ (o : Option (Option Start)). option_then o (λ s. s)) (nth_put_same r.starts u o (Some (new_start (r.entries + 1) (footing r u))) h)
+
+  number_other : (v : ℕ) → u ≢ v → number (after r (Pending u d)) v ≡ number r v
+  number_other v h = ap (λ (o : Option Start). from_option 0 (λ (s : Start). s.number) o) (start_other v h)
 
   renewal_other : (v : ℕ) → u ≢ v → renewal (after r (Pending u d)) v ≡ renewal r v
   renewal_other v h = ap (λ (o : Option Start). from_option 0 (λ (s : Start). s.renewal) o) (start_other v h)
@@ -169,21 +184,24 @@ module _ (r : Reading) (u : ℕ) (d : List Value) where
 
   footing_apart : (v : ℕ) → Apart v → footing (after r (Pending u d)) v ≡ footing r v
   footing_apart v apart =
-      footing_agree r.sheet (renewal (after r (Pending u d))) (renewal r) v (λ c x h. renewal_other x (λ e. false≢true (sym (apart c) ∙ (ap (has (direct r.sheet v)) e ∙ h))))
+      footing_agree r.sheet (number (after r (Pending u d))) (number r) (renewal (after r (Pending u d))) (renewal r) v
+      (λ c x h. number_other x (other c x h))
+      (λ c x h. renewal_other x (other c x h))
+    where
+      other : circular r.sheet v ≡ false → (x : ℕ) → has (direct r.sheet v) x ≡ true → u ≢ x
+      other c x h e = false≢true (sym (apart c) ∙ (ap (has (direct r.sheet v)) e ∙ h))
 
-  -- v is due after it exactly where it was
-  pub due_apart : (v : ℕ) → u ≢ v → Apart v → due (after r (Pending u d)) v ≡ due r v
-  due_apart v other apart =
-      ap (λ (b : Bool). wanted r v && b) (ap (λ (f : Footing). behind_by f (start_of (after r (Pending u d)) v)) (footing_apart v apart) ∙ ap (behind_by (footing r v)) (start_other v other))
+  -- v is behind after it exactly where it was
+  pub behind_apart : (v : ℕ) → u ≢ v → Apart v → is_behind (after r (Pending u d)) v ≡ is_behind r v
+  behind_apart v other apart =
+      ap (λ (f : Footing). behind_by f (start_of (after r (Pending u d)) v)) (footing_apart v apart) ∙ ap (behind_by (footing r v)) (start_other v other)
 
-  -- u isn't due after it
-  pub due_self : (o : Option Start) → nth r.starts u ≡ Some o → Apart u → due (after r (Pending u d)) u ≡ false
-  due_self o here apart =
-      let kept : behind_by (footing (after r (Pending u d)) u) (start_of (after r (Pending u d)) u) ≡ false
-      = ap (λ (f : Footing). behind_by f (start_of (after r (Pending u d)) u)) (footing_apart u apart)
+  -- u isn't behind after it
+  pub behind_self : (o : Option Start) → nth r.starts u ≡ Some o → Apart u → is_behind (after r (Pending u d)) u ≡ false
+  behind_self o here apart =
+      ap (λ (f : Footing). behind_by f (start_of (after r (Pending u d)) u)) (footing_apart u apart)
       ∙ ap (behind_by (footing r u)) (start_self o here)
-      ∙ ap not (same_footing_refl (footing r u)) in
-      and_right (wanted r u) (is_behind (after r (Pending u d)) u) kept
+      ∙ ap not (same_footing_refl (footing r u))
 
 -- ---- needs, in a sheet
 
@@ -206,11 +224,32 @@ module _ (s : Sheet) where
 abbrev pub is_since : ℕ → Reading → ℕ → Bool
 is_since p r v = from_option false (λ (s : Start). ltb p s.number) (start_of r v)
 
--- those that started after place p aren't due, and nothing that they need is
+-- v isn't behind, and nothing that it needs is
+abbrev pub Calm : Reading → ℕ → Type 0
+Calm r v = (is_behind r v ≡ false) × (circular r.sheet v ≡ false → (w : ℕ) → has (needed r.sheet v) w ≡ true → is_behind r w ≡ false)
+
+-- so are those that started after place p
 abbrev pub Settled : ℕ → Reading → Type 0
-Settled p r =
-    (v : ℕ) → is_since p r v ≡ true
-    → (due r v ≡ false) × (circular r.sheet v ≡ false → (w : ℕ) → has (needed r.sheet v) w ≡ true → due r w ≡ false)
+Settled p r = (v : ℕ) → is_since p r v ≡ true → Calm r v
+
+-- v is circular, or nothing that it needs is behind
+abbrev pub MayBegin : Reading → ℕ → Type 0
+MayBegin r v = (circular r.sheet v ≡ true) ⊎ ((w : ℕ) → has (needed r.sheet v) w ≡ true → is_behind r w ≡ false)
+
+-- what a due variable is
+pub record IsDue (r : Reading) (v : ℕ) : Type 0 where
+  pub wanted : wanted r v ≡ true
+  pub behind : is_behind r v ≡ true
+  pub free : is_held r v ≡ false
+
+pub due_parts : (r : Reading) (v : ℕ) → due r v ≡ true → IsDue r v
+due_parts r v h =
+    let p : ((wanted r v && is_behind r v) ≡ true) × (not (is_held r v) ≡ true) = and_parts (wanted r v && is_behind r v) (not (is_held r v)) h in
+    let q : (wanted r v ≡ true) × (is_behind r v ≡ true) = and_parts (wanted r v) (is_behind r v) p.0 in
+    record { wanted = q.0; behind = q.1; free = not-true (is_held r v) p.1 }
+
+pub due_from : (r : Reading) (v : ℕ) → wanted r v ≡ true → is_behind r v ≡ true → is_held r v ≡ false → due r v ≡ true
+due_from r v w b f = rw (w, b, f) refl
 
 -- a due v may start where it is circular or nothing that it needs is due
 pub may_start_cases : (r : Reading) (v : ℕ) → may_start r v ≡ true
@@ -224,38 +263,50 @@ may_start_cases r v h =
       ],
     )
 
-pub settled_pending : (p : ℕ) (r : Reading) (u : ℕ) (d : List Value) (o : Option Start)
-    → nth r.starts u ≡ Some o → may_start r u ≡ true → Settled p r → Settled p (after r (Pending u d))
-settled_pending p r u d o here may settled v since =
-    let s = r.sheet in
-    let may' : (due r u ≡ true) × ((circular s u ≡ true) ⊎ ((w : ℕ) → has (needed s u) w ≡ true → due r w ≡ false)) = may_start_cases r u may in
-    elim (cases_eq u v) [
-      | inl same ↦ subst (λ (x : ℕ). (due (after r (Pending u d)) x ≡ false) × (circular s x ≡ false → (w : ℕ) → has (needed s x) w ≡ true → due (after r (Pending u d)) w ≡ false)) same (
-        due_self r u d o here (λ c. not_direct s u u c),
-        λ c w n. elim may'.1 [
-          | inl circ ↦ absurd (false≢true (sym c ∙ circ))
-          | inr none ↦
-              let other : u ≢ w = λ e. false≢true (sym c ∙ (ap (has (needed s u)) e ∙ n)) in
-              let apart : has (direct s w) u ≡ false = false_from_ne_true (has (direct s w) u) (λ k. false≢true (sym c ∙ needs_step s u w u n k)) in
-              due_apart r u d w other (λ _. apart) ∙ none w n
-        ],
+module _ (r : Reading) (u : ℕ) (d : List Value) where
+  -- what starts is calm then
+  pub calm_self : (o : Option Start) → nth r.starts u ≡ Some o → MayBegin r u → Calm (after r (Pending u d)) u
+  calm_self o here may = (
+    behind_self r u d o here (λ c. not_direct s u u c),
+    λ c w n. elim may [
+      | inl circ ↦ absurd (false≢true (sym c ∙ circ))
+      | inr none ↦
+          let other : u ≢ w = λ e. false≢true (sym c ∙ (ap (has (needed s u)) e ∙ n)) in
+          let apart : has (direct s w) u ≡ false = false_from_ne_true (has (direct s w) u) (λ k. false≢true (sym c ∙ needs_step s u w u n k)) in
+          behind_apart r u d w other (λ _. apart) ∙ none w n
+    ],
+  )
+    where
+      s : Sheet
+      s = r.sheet
+
+  -- what was calm stays so
+  pub calm_other : (v : ℕ) → is_behind r u ≡ true → Calm r v → Calm (after r (Pending u d)) v
+  calm_other v behind calm =
+      let s = r.sheet in
+      let other : u ≢ v = λ e. false≢true (sym calm.0 ∙ (ap (is_behind r) (sym e) ∙ behind)) in
+      -- v doesn't need u, which is behind
+      let unneeded : circular s v ≡ false → has (needed s v) u ≡ false = λ c. false_from_ne_true (has (needed s v) u) (λ k. false≢true (sym (calm.1 c u k) ∙ behind)) in (
+        behind_apart r u d v other (λ c. not_direct s v u (unneeded c)) ∙ calm.0,
+        λ c w n.
+            let apart : has (direct s w) u ≡ false = false_from_ne_true (has (direct s w) u) (λ k. false≢true (sym (unneeded c) ∙ needs_step s v w u n k)) in
+            let w_other : u ≢ w = λ e. false≢true (sym (unneeded c) ∙ (ap (has (needed s v)) e ∙ n)) in
+            behind_apart r u d w w_other (λ _. apart) ∙ calm.1 c w n,
       )
+
+pub settled_pending : (p : ℕ) (r : Reading) (u : ℕ) (d : List Value) (o : Option Start)
+    → nth r.starts u ≡ Some o → is_behind r u ≡ true → MayBegin r u → Settled p r → Settled p (after r (Pending u d))
+settled_pending p r u d o here behind may settled v since =
+    elim (cases_eq u v) [
+      | inl same ↦ subst (Calm (after r (Pending u d))) same (calm_self r u d o here may)
       | inr other ↦
           let old : is_since p r v ≡ true = ap (λ (x : Option Start). from_option false (λ (s : Start). ltb p s.number) x) (sym (start_other r u d v other)) ∙ since in
-          let before : (due r v ≡ false) × (circular s v ≡ false → (w : ℕ) → has (needed s v) w ≡ true → due r w ≡ false) = settled v old in
-          -- v doesn't need u, which is due
-          let unneeded : circular s v ≡ false → has (needed s v) u ≡ false = λ c. false_from_ne_true (has (needed s v) u) (λ k. false≢true (sym (before.1 c u k) ∙ may'.0)) in (
-            due_apart r u d v other (λ c. not_direct s v u (unneeded c)) ∙ before.0,
-            λ c w n.
-                let apart : has (direct s w) u ≡ false = false_from_ne_true (has (direct s w) u) (λ k. false≢true (sym (unneeded c) ∙ needs_step s v w u n k)) in
-                let w_other : u ≢ w = λ e. false≢true (sym (unneeded c) ∙ (ap (has (needed s v)) e ∙ n)) in
-                due_apart r u d w w_other (λ _. apart) ∙ before.1 c w n,
-          )
+          calm_other r u d v behind (settled v old)
     ]
 
 -- ---- while anything is due, something may start
 
-due_may_start : (r : Reading) (n v : ℕ) → passing (has (needed r.sheet v)) (numbers r.sheet.rows) < n → due r v ≡ true → (w : ℕ) × (may_start r w ≡ true)
+pub due_may_start : (r : Reading) (n v : ℕ) → passing (has (needed r.sheet v)) (numbers r.sheet.rows) < n → due r v ≡ true → (w : ℕ) × (may_start r w ≡ true)
 due_may_start r zero v less h = absurd (omega (arith, less))
 due_may_start r (suc n) v less h =
     let s = r.sheet in
@@ -289,9 +340,9 @@ wanted_has r v h =
     defined_has r.sheet v p.0
 
 pub due_has : (r : Reading) (v : ℕ) → due r v ≡ true → has (numbers r.sheet.rows) v ≡ true
-due_has r v h = wanted_has r v (and_parts (wanted r v) (is_behind r v) h).0
+due_has r v h = wanted_has r v (due_parts r v h).wanted
 
-started_has : (r : Reading) → Shaped r → (v : ℕ) → is_idle (start_of r v) ≡ false → has (numbers r.sheet.rows) v ≡ true
+pub started_has : (r : Reading) → Shaped r → (v : ℕ) → is_idle (start_of r v) ≡ false → has (numbers r.sheet.rows) v ≡ true
 started_has r shaped v h = go (nth r.starts v) refl
   where
     go : (o : Option (Option Start)) → nth r.starts v ≡ o → has (numbers r.sheet.rows) v ≡ true

@@ -1,9 +1,9 @@
 -- The test of two footings decides whether they are one.
-use Rattle.std.proofs.Common.{ℕ, ◌≡◌, refl, sym, ◌∙◌, ap, Bool, true, false, ◌&&◌, eqb, List, [], ◌∷◌, arith}
+use Rattle.std.proofs.Common.{ℕ, ◌≡◌, refl, sym, ◌∙◌, ap, subst, Bool, true, false, ◌&&◌, eqb, List, [], ◌∷◌, arith}
 use Rattle.std.proofs.lemmas.Bool.{and_parts, and_from, eqb-true, eq-eqb, false≢true}
 use Rattle.nb_history.specs.Lists.{same_bool, same_numbers}
 use Rattle.nb_history.specs.Reading.{Footing}
-use Rattle.nb_history.specs.Rules.{resolution_code, same_footing}
+use Rattle.nb_history.specs.Rules.{resolution_code, same_base, same_footing}
 use Rattle.nb_resolve.specs.declared.resolution.Resolution.{Resolution}
 use Rattle.nb_resolve.specs.declared.resolution.Resolution.TheVariants.{Var, Builtin, Twice, Missing}
 
@@ -58,24 +58,49 @@ and_five a b c d e h =
 from_five : (a b c d e : Bool) → a ≡ true → b ≡ true → c ≡ true → d ≡ true → e ≡ true → (a && b && c && d && e) ≡ true
 from_five a b c d e p q r s t = rw (p, q, r, s, t) refl
 
+-- the two agree but for the renewals
+pub record SameBase (f g : Footing) : Type 0 where
+  pub place : f.place ≡ g.place
+  pub is_duplicate : f.is_duplicate ≡ g.is_duplicate
+  pub is_circular : f.is_circular ≡ g.is_circular
+  pub inputs : f.inputs ≡ g.inputs
+  pub starts : f.starts ≡ g.starts
+
+pub same_base_eq : (f g : Footing) → same_base f g ≡ true → SameBase f g
+same_base_eq f g h =
+    let t : (eqb f.place g.place ≡ true) × (same_bool f.is_duplicate g.is_duplicate ≡ true) × (same_bool f.is_circular g.is_circular ≡ true) × (same_numbers f.inputs g.inputs ≡ true) × (same_numbers f.starts g.starts ≡ true)
+    = and_five (eqb f.place g.place) (same_bool f.is_duplicate g.is_duplicate) (same_bool f.is_circular g.is_circular) (same_numbers f.inputs g.inputs) (same_numbers f.starts g.starts) h in
+    record {
+      place = eqb-true f.place g.place t.0;
+      is_duplicate = same_bool_eq f.is_duplicate g.is_duplicate t.1;
+      is_circular = same_bool_eq f.is_circular g.is_circular t.2;
+      inputs = same_numbers_eq f.inputs g.inputs t.3;
+      starts = same_numbers_eq f.starts g.starts t.4;
+    }
+
+pub same_base_from : (f g : Footing) → SameBase f g → same_base f g ≡ true
+same_base_from f g h =
+    from_five (eqb f.place g.place) (same_bool f.is_duplicate g.is_duplicate) (same_bool f.is_circular g.is_circular) (same_numbers f.inputs g.inputs) (same_numbers f.starts g.starts)
+    (eq-eqb f.place g.place h.place)
+    (subst (λ (b : Bool). same_bool f.is_duplicate b ≡ true) h.is_duplicate (same_bool_refl f.is_duplicate))
+    (subst (λ (b : Bool). same_bool f.is_circular b ≡ true) h.is_circular (same_bool_refl f.is_circular))
+    (subst (λ (xs : List ℕ). same_numbers f.inputs xs ≡ true) h.inputs (same_numbers_refl f.inputs))
+    (subst (λ (xs : List ℕ). same_numbers f.starts xs ≡ true) h.starts (same_numbers_refl f.starts))
+
+pub same_base_refl : (f : Footing) → same_base f f ≡ true
+same_base_refl f = same_base_from f f (record { place = refl; is_duplicate = refl; is_circular = refl; inputs = refl; starts = refl })
+
 pub same_footing_eq : (f g : Footing) → same_footing f g ≡ true → f ≡ g
 same_footing_eq f g h =
-    let t : (eqb f.place g.place ≡ true) × (same_bool f.is_duplicate g.is_duplicate ≡ true) × (same_bool f.is_circular g.is_circular ≡ true) × (same_numbers f.inputs g.inputs ≡ true) × (same_numbers f.renewals g.renewals ≡ true)
-    = and_five (eqb f.place g.place) (same_bool f.is_duplicate g.is_duplicate) (same_bool f.is_circular g.is_circular) (same_numbers f.inputs g.inputs) (same_numbers f.renewals g.renewals) h in
-    let a : f.place ≡ g.place = eqb-true f.place g.place t.0 in
-    let b : f.is_duplicate ≡ g.is_duplicate = same_bool_eq f.is_duplicate g.is_duplicate t.1 in
-    let c : f.is_circular ≡ g.is_circular = same_bool_eq f.is_circular g.is_circular t.2 in
-    let d : f.inputs ≡ g.inputs = same_numbers_eq f.inputs g.inputs t.3 in
-    let e : f.renewals ≡ g.renewals = same_numbers_eq f.renewals g.renewals t.4 in
-    ap (λ (x : ℕ). record f { place = x }) a
-    ∙ ap (λ (x : Bool). record f { place = g.place; is_duplicate = x }) b
-    ∙ ap (λ (x : Bool). record f { place = g.place; is_duplicate = g.is_duplicate; is_circular = x }) c
-    ∙ ap (λ (x : List ℕ). record g { inputs = x; renewals = f.renewals }) d
+    let t : (same_base f g ≡ true) × (same_numbers f.renewals g.renewals ≡ true) = and_parts (same_base f g) (same_numbers f.renewals g.renewals) h in
+    let b : SameBase f g = same_base_eq f g t.0 in
+    let e : f.renewals ≡ g.renewals = same_numbers_eq f.renewals g.renewals t.1 in
+    ap (λ (x : ℕ). record f { place = x }) b.place
+    ∙ ap (λ (x : Bool). record f { place = g.place; is_duplicate = x }) b.is_duplicate
+    ∙ ap (λ (x : Bool). record f { place = g.place; is_duplicate = g.is_duplicate; is_circular = x }) b.is_circular
+    ∙ ap (λ (x : List ℕ). record g { inputs = x; starts = f.starts; renewals = f.renewals }) b.inputs
+    ∙ ap (λ (x : List ℕ). record g { starts = x; renewals = f.renewals }) b.starts
     ∙ ap (λ (x : List ℕ). record g { renewals = x }) e
 
 pub same_footing_refl : (f : Footing) → same_footing f f ≡ true
-same_footing_refl f =
-    from_five (eqb f.place f.place) (same_bool f.is_duplicate f.is_duplicate) (same_bool f.is_circular f.is_circular) (same_numbers f.inputs f.inputs) (same_numbers f.renewals f.renewals)
-    (eq-eqb f.place f.place refl) (same_bool_refl f.is_duplicate) (same_bool_refl f.is_circular)
-    (same_numbers_refl f.inputs)
-    (same_numbers_refl f.renewals)
+same_footing_refl f = and_from (same_base f f) (same_numbers f.renewals f.renewals) (same_base_refl f) (same_numbers_refl f.renewals)

@@ -4,12 +4,12 @@ use Rattle.std.proofs.lemmas.Option.{some_pair_parts, none-some, same_Some}
 use Rattle.std.proofs.lemmas.Bool.{and_right}
 use Rattle.std.specs.List.{list_any}
 use Rattle.std.specs.Str.{bytes_eq}
-use Rattle.nb_sheet.specs.Lists.{Name, nth, from_option, numbers}
+use Rattle.nb_sheet.specs.Lists.{Name, nth, from_option, option_then, or_else, numbers}
 use Rattle.nb_history.specs.Lists.{first_where}
 use Rattle.nb_history.specs.Reading.{Reading, Ticket, owed}
 use Rattle.nb_history.specs.Rules.{leaving, ready, may_start, next}
 use Rattle.nb_history.specs.Log.{after, read_from, Fits, LegalFrom, admit, is_live}
-use Rattle.nb_history.specs.Serial.{least_var, closing, Closes, Todo, first_step, SerialFrom, loader_ticket, may_load, outer_step}
+use Rattle.nb_history.specs.Serial.{least_var, closing, next_of_ready, Closes, Todo, first_step, SerialFrom, loader_ticket, may_load, to_load, outer_step}
 use Rattle.nb_log.specs.declared.event.Event.{Event}
 use Rattle.nb_value.specs.declared.outcome.Answer.{Answer}
 use Rattle.nb_log.specs.declared.entry.Entry.{Entry}
@@ -28,6 +28,11 @@ legal_append r (e ∷ es) fs h k = (h.0, legal_append (after r e) es fs h.1 k)
 pub legal_front : (r : Reading) (es fs : List Entry) → LegalFrom r (es ++ fs) → LegalFrom r es
 legal_front r [] fs h = tt
 legal_front r (e ∷ es) fs h = (h.0, legal_front (after r e) es fs h.1)
+
+-- and what follows one
+pub legal_back : (r : Reading) (es fs : List Entry) → LegalFrom r (es ++ fs) → LegalFrom (read_from r es) fs
+legal_back r [] fs h = h
+legal_back r (e ∷ es) fs h = legal_back (after r e) es fs h.1
 
 -- what holds before any entry, and is kept by each entry that fits, holds after every legal log
 pub legal_keeps : (P : Reading → Type 0) → ((r : Reading) (e : Entry) → P r → Fits r e → P (after r e)) → (r : Reading) (es : List Entry) → P r → LegalFrom r es → P (read_from r es)
@@ -87,9 +92,12 @@ closes_end r q [] h k = ap closing h ∙ k
 closes_end r q (e ∷ es) h k = (h.0, closes_end (after r e) q es h.1 k)
 
 -- they are the next of the serial history
+pub closing_step : (keys : List Name) (r : Reading) (todo : Todo) (e : Entry) → closing r ≡ Some e → first_step keys r todo ≡ Some (e, todo)
+closing_step keys r todo e h = rw h refl
+
 pub closes_serial : (keys : List Name) (r : Reading) (todo : Todo) (es : List Entry) → Closes r es → SerialFrom keys r todo es todo
 closes_serial keys r todo [] h = refl
-closes_serial keys r todo (e ∷ es) h = (todo, rw h.0 refl, closes_serial keys (after r e) todo es h.1)
+closes_serial keys r todo (e ∷ es) h = (todo, closing_step keys r todo e h.0, closes_serial keys (after r e) todo es h.1)
 
 pub closed_in_the_end : (r : Reading) (es : List Entry) → Closes r es → closing (read_from r es) ≡ None
 closed_in_the_end r [] h = h
@@ -114,19 +122,47 @@ no_ticket r =
     first_of_none (λ t. is_live r t && from_option false (λ (k : Ticket). list_any (λ key. bytes_eq key k.key) []) (nth r.tickets t)) (numbers r.tickets)
     (λ t. and_right (is_live r t) (from_option false (λ (k : Ticket). list_any (λ key. bytes_eq key k.key) []) (nth r.tickets t)) (never (nth r.tickets t)))
 
-no_load : (r : Reading) (b : Bool) → cond b (loader_ticket r []) None ≡ None
-no_load r true = no_ticket r
-no_load r false = refl
+pub nothing_to_load : (r : Reading) → to_load [] r ≡ None
+nothing_to_load r = go (may_load r)
+  where
+    go : (b : Bool) → cond b (loader_ticket r []) None ≡ None
+    go true = no_ticket r
+    go false = refl
 
 pub line_first : (r : Reading) (l : ℕ × Event) (lines : List (ℕ × Event)) (answers : List Answer)
     → closing r ≡ None → least_var r (ready r) ≡ None
     → first_step [] r (record { lines = l ∷ lines; answers = answers }) ≡ Some (admit r l.0 l.1, record { lines = lines; answers = answers })
 line_first r l lines answers h k =
     let todo : Todo = record { lines = l ∷ lines; answers = answers } in
-    rw (h, k) (ap (outer_step r todo) (no_load r (may_load r)))
+    rw (h, k) (ap (outer_step r todo) (nothing_to_load r))
 
 pub no_step : (r : Reading) (answers : List Answer) → closing r ≡ None → least_var r (ready r) ≡ None
     → first_step [] r (record { lines = []; answers = answers }) ≡ None
 no_step r answers h k =
     let todo : Todo = record { lines = []; answers = answers } in
-    rw (h, k) (ap (outer_step r todo) (no_load r (may_load r)))
+    rw (h, k) (ap (outer_step r todo) (nothing_to_load r))
+
+-- nothing is still to come from outside
+abbrev pub nothing : Todo
+nothing = record { lines = []; answers = [] }
+
+-- a step that takes no line leaves nothing to come
+pub same_todo : (r : Reading) (e : Entry) (mid : Todo) → first_step [] r nothing ≡ Some (e, mid) → mid ≡ nothing
+same_todo r e mid h = go (closing r) refl (next_of_ready r) refl
+  where
+    from_entry : (x : Entry) → or_else (closing r) (next_of_ready r) ≡ Some x → mid ≡ nothing
+    from_entry x is =
+        let step : first_step [] r nothing ≡ Some (x, nothing) = rw is refl in
+        sym (some_pair_parts x e nothing mid (sym step ∙ h)).1
+
+    go : (a : Option Entry) → closing r ≡ a → (b : Option Entry) → next_of_ready r ≡ b → mid ≡ nothing
+    go (Some x) p b q = from_entry x (ap (λ (o : Option Entry). or_else o (next_of_ready r)) p)
+    go None p (Some x) q = from_entry x (ap (λ (o : Option Entry). or_else o (next_of_ready r)) p ∙ q)
+    go None p None q = absurd (none-some (e, mid) (sym (no_step r [] p (no_ready q)) ∙ h))
+      where
+        no_ready : option_then (least_var r (ready r)) (λ v. Some (next r v)) ≡ None → least_var r (ready r) ≡ None
+        no_ready k = least (least_var r (ready r)) refl
+          where
+            least : (o : Option ℕ) → least_var r (ready r) ≡ o → least_var r (ready r) ≡ None
+            least None e = e
+            least (Some v) e = absurd (none-some (next r v) (sym k ∙ ap (λ (o : Option ℕ). option_then o (λ v. Some (next r v))) e))

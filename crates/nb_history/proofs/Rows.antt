@@ -1,5 +1,5 @@
 -- Worked histories of small notebooks: the serial history of some edits, with an entry more asked for than there are.
-use Rattle.std.specs.Prelude.{ℕ, pos, ◌≡◌, refl, true, false, List, [], ◌∷◌, Some, None, codes}
+use Rattle.std.specs.Prelude.{ℕ, pos, ◌≡◌, refl, true, false, List, [], ◌∷◌, map, Some, None, codes}
 use Rattle.std.specs.Fmt.{take_chars, digits}
 use Rattle.nb_value.specs.declared.pairs.Field.{Field}
 use Rattle.nb_value.specs.declared.value.Value.TheVariants as V
@@ -76,7 +76,16 @@ abbrev input : Name → ℕ → Field Value
 input n k = record { name = n; value = V.Int (pos k) }
 
 abbrev phase : Edit → List Inputs → List Walked → Phase
-phase edit inputs_now steps = record { edit = edit; inputs_now = inputs_now; steps = steps }
+phase edit inputs_now steps =
+    record {
+      event = EditEvent edit;
+      admitted = edited edit;
+      disposed = false;
+      refusal = None;
+      inputs_now = inputs_now;
+      generators_now = map (λ (is : Inputs). false) inputs_now;
+      steps = steps;
+    }
 
 x_is_1_plus_2 : evaluation (cell (codes "x") (plus (int 1) (int 2))) [] [] 1 ≡ gives 3
 unfolding evaluation
@@ -91,7 +100,9 @@ a_sum_shows_its_value =
       refl,
       refl,
       refl,
+      refl,
       simp (fold_plus, fold_int),
+      refl,
       (refl, tt, tt, refl, (refl, x_is_1_plus_2, x_is_1_plus_2, refl, tt)),
       refl,
     )
@@ -112,14 +123,18 @@ a_name_waits_for_its_definition =
       refl,
       refl,
       refl,
+      refl,
       simp (fold_plus, fold_int, fold_name),
+      refl,
       (refl, tt, tt, refl, (refl, tt, tt, refl, tt)),
       (
         refl,
         refl,
         simp (size_add, size_pending, size_rejected, fold_plus, fold_int, fold_name),
         refl,
+        refl,
         simp (fold_plus, fold_int, fold_name),
+        refl,
         (refl, tt, tt, refl, (refl, tt, tt, refl, (refl, evaluates_int (codes "x") 1 [], evaluates_int (codes "x") 1 [], refl, (refl, y_is_x_plus_1, y_is_x_plus_1, refl, tt)))),
         refl,
       ),
@@ -140,7 +155,9 @@ a_sum_past_the_greatest_integer_fails =
       refl,
       refl,
       refl,
+      refl,
       simp (fold_plus, fold_int),
+      refl,
       (refl, tt, tt, refl, (refl, x_is_most_plus_1, x_is_most_plus_1, refl, tt)),
       refl,
     )
@@ -158,7 +175,9 @@ a_sum_may_be_the_greatest_integer =
       refl,
       refl,
       refl,
+      refl,
       simp (fold_plus, fold_int),
+      refl,
       (refl, tt, tt, refl, (refl, x_is_nearly_most_plus_1, x_is_nearly_most_plus_1, refl, tt)),
       refl,
     )
@@ -181,12 +200,16 @@ a_name_defined_twice_fails_where_it_is_read =
       refl,
       refl,
       refl,
+      refl,
       simp (fold_int),
+      refl,
       (refl, tt, tt, refl, (refl, evaluates_int (codes "x") 1 [], evaluates_int (codes "x") 1 [], refl, tt)),
       (
         refl,
         refl,
         simp (size_add, size_pending, size_fulfilled, fold_int),
+        refl,
+        refl,
         refl,
         refl,
         (refl, tt, tt, refl, (refl, tt, tt, refl, (refl, tt, tt, refl, (refl, tt, tt, refl, tt)))),
@@ -195,7 +218,9 @@ a_name_defined_twice_fails_where_it_is_read =
           refl,
           simp (size_add, size_pending, size_fulfilled, size_rejected, fold_int),
           refl,
+          refl,
           simp (fold_name),
+          refl,
           (refl, tt, tt, refl, (refl, tt, tt, refl, tt)),
           refl,
         ),
@@ -226,12 +251,16 @@ deleting_one_of_two_mends_the_other =
       refl,
       refl,
       refl,
+      refl,
       simp (fold_int),
+      refl,
       (refl, tt, tt, refl, (refl, evaluates_int (codes "x") 1 [], evaluates_int (codes "x") 1 [], refl, tt)),
       (
         refl,
         refl,
         simp (size_add, size_pending, size_fulfilled, fold_int),
+        refl,
+        refl,
         refl,
         refl,
         (refl, tt, tt, refl, (refl, tt, tt, refl, (refl, tt, tt, refl, (refl, tt, tt, refl, tt)))),
@@ -240,14 +269,18 @@ deleting_one_of_two_mends_the_other =
           refl,
           simp (size_add, size_pending, size_fulfilled, size_rejected, fold_int),
           refl,
+          refl,
           simp (fold_name),
+          refl,
           (refl, tt, tt, refl, (refl, tt, tt, refl, tt)),
           (
             refl,
             refl,
             simp (size_add, size_pending, size_fulfilled, size_rejected, fold_int, fold_name),
             refl,
+            refl,
             simp (fold_int, fold_name),
+            refl,
             (refl, tt, tt, refl, (refl, tt, tt, refl, (refl, tt, tt, refl, (refl, evaluates_int (codes "x") 1 [], evaluates_int (codes "x") 1 [], refl, (refl, y_is_x, y_is_x, refl, tt))))),
             refl,
           ),
@@ -265,7 +298,9 @@ a_cell_that_reads_itself_is_circular =
       refl,
       refl,
       refl,
+      refl,
       simp (fold_name),
+      refl,
       (refl, tt, tt, refl, (refl, tt, tt, refl, tt)),
       refl,
     )
@@ -300,28 +335,36 @@ a_cycle_is_mended_by_a_definition =
       refl,
       refl,
       refl,
+      refl,
       simp (fold_name),
+      refl,
       (refl, tt, tt, refl, (refl, tt, tt, refl, tt)),
       (
         refl,
         refl,
         simp (size_add, size_pending, size_rejected, fold_name),
         refl,
+        refl,
         simp (fold_name),
+        refl,
         (refl, tt, tt, refl, (refl, tt, tt, refl, (refl, tt, tt, refl, (refl, tt, tt, refl, tt)))),
         (
           refl,
           refl,
           simp (size_add, size_pending, size_rejected, fold_name),
           refl,
+          refl,
           simp (fold_name),
+          refl,
           (refl, tt, tt, refl, (refl, tt, tt, refl, tt)),
           (
             refl,
             refl,
             simp (size_add, size_pending, size_rejected, size_rejected_through, fold_name),
             refl,
+            refl,
             simp (fold_name, fold_int),
+            refl,
             (refl, tt, tt, refl, (refl, tt, tt, refl, (refl, tt, tt, refl, (refl, evaluates_int (codes "b") 1 [], evaluates_int (codes "b") 1 [], refl, (refl, a_is_b, a_is_b, refl, (refl, c_is_a, c_is_a, refl, tt)))))),
             refl,
           ),
@@ -379,35 +422,45 @@ each_of_a_diamond_starts_once =
       refl,
       refl,
       refl,
+      refl,
       simp (fold_int),
+      refl,
       (refl, tt, tt, refl, (refl, evaluates_int (codes "a") 1 [], evaluates_int (codes "a") 1 [], refl, tt)),
       (
         refl,
         refl,
         simp (size_add, size_pending, size_fulfilled, fold_int),
         refl,
+        refl,
         simp (fold_plus, fold_int, fold_name),
+        refl,
         (refl, tt, tt, refl, (refl, b_is_a_plus_1, b_is_a_plus_1, refl, tt)),
         (
           refl,
           refl,
           simp (size_add, size_pending, size_fulfilled, fold_plus, fold_int, fold_name),
           refl,
+          refl,
           simp (fold_plus, fold_int, fold_name),
+          refl,
           (refl, tt, tt, refl, (refl, c_is_a_plus_2, c_is_a_plus_2, refl, tt)),
           (
             refl,
             refl,
             simp (size_add, size_pending, size_fulfilled, fold_plus, fold_int, fold_name),
             refl,
+            refl,
             simp (fold_plus, fold_int, fold_name),
+            refl,
             (refl, tt, tt, refl, (refl, d_is_b_plus_c, d_is_b_plus_c, refl, tt)),
             (
               refl,
               refl,
               simp (size_add, size_pending, size_fulfilled, fold_plus, fold_int, fold_name),
               refl,
+              refl,
               simp (fold_plus, fold_int, fold_name),
+              refl,
               (refl, tt, tt, refl, (refl, tt, tt, refl, (refl, tt, tt, refl, (refl, tt, tt, refl, (refl, evaluates_int (codes "a") 10 [], evaluates_int (codes "a") 10 [], refl, (refl, b_is_a_plus_1_again, b_is_a_plus_1_again, refl, (refl, c_is_a_plus_2_again, c_is_a_plus_2_again, refl, (refl, d_is_b_plus_c_again, d_is_b_plus_c_again, refl, tt)))))))),
               refl,
             ),
@@ -436,21 +489,27 @@ a_hidden_cell_runs_while_it_is_read =
       refl,
       refl,
       refl,
+      refl,
       simp (fold_int),
+      refl,
       tt,
       (
         refl,
         refl,
         simp (size_add, fold_int),
         refl,
+        refl,
         simp (fold_int, fold_name),
+        refl,
         (refl, tt, tt, refl, (refl, tt, tt, refl, (refl, evaluates_int (codes "a") 1 [], evaluates_int (codes "a") 1 [], refl, (refl, b_is_a, b_is_a, refl, tt)))),
         (
           refl,
           refl,
           simp (size_add, size_pending, size_fulfilled, fold_int, fold_name),
           refl,
+          refl,
           simp (fold_int),
+          refl,
           (refl, tt, tt, refl, (refl, tt, tt, refl, (refl, evaluates_int (codes "b") 5 [], evaluates_int (codes "b") 5 [], refl, tt))),
           refl,
         ),

@@ -30,7 +30,7 @@ use Rattle.nb_history.proofs.Closing.{needs_direct, needs_step, needs_fewer, num
 -- ---- a local value rests on what the inputs show
 
 module _ (s : Sheet) (f g : ℕ → Option Outcome) where
-  abbrev Agree : List (Name × Resolution) → Type 0
+  abbrev pub Agree : List (Name × Resolution) → Type 0
   Agree is = (u : ℕ) → has (filter_map variable_of is) u ≡ true → f u ≡ g u
 
   given_agree : (i : Name × Resolution) (is : List (Name × Resolution)) → Agree (i ∷ is) → given s f i ≡ given s g i
@@ -45,19 +45,19 @@ module _ (s : Sheet) (f g : ℕ → Option Outcome) where
   rest_agree (n, Twice) is h u k = h u k
   rest_agree (n, Missing) is h u k = h u k
 
-  all_given_agree : (is : List (Name × Resolution)) → Agree is → map (given s f) is ≡ map (given s g) is
+  pub all_given_agree : (is : List (Name × Resolution)) → Agree is → map (given s f) is ≡ map (given s g) is
   all_given_agree [] h = refl
   all_given_agree (i ∷ is) h =
       ap (λ (x : Option Outcome). x ∷ map (given s f) is) (given_agree i is h)
       ∙ ap (λ (xs : List (Option Outcome)). given s g i ∷ xs) (all_given_agree is (rest_agree i is h))
 
-  values_agree : (is : List (Name × Resolution)) → Agree is → values_given s f is ≡ values_given s g is
+  pub values_agree : (is : List (Name × Resolution)) → Agree is → values_given s f is ≡ values_given s g is
   values_agree [] h = refl
   values_agree (i ∷ is) h =
       ap (λ (x : Option Outcome). fields.put (record { name = i.0; value = value_given x }) (values_given s f is)) (given_agree i is h)
       ∙ ap (λ (xs : List (Field Value)). fields.put (record { name = i.0; value = value_given (given s g i) }) xs) (values_agree is (rest_agree i is h))
 
-  any_agree : (us : List ℕ) → ((u : ℕ) → has us u ≡ true → f u ≡ g u) → list_any (λ u. not (is_some (f u))) us ≡ list_any (λ u. not (is_some (g u))) us
+  pub any_agree : (us : List ℕ) → ((u : ℕ) → has us u ≡ true → f u ≡ g u) → list_any (λ u. not (is_some (f u))) us ≡ list_any (λ u. not (is_some (g u))) us
   any_agree [] h = refl
   any_agree (u ∷ us) h =
       ap (λ (x : Option Outcome). not (is_some x) || list_any (λ u. not (is_some (f u))) us) (h u (has_head u us u refl))

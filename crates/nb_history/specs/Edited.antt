@@ -40,19 +40,19 @@ first_line editor [] = None
 first_line editor (l ∷ lines) = cond (l.0 == editor) (Some (l.1, lines)) (put_back l (first_line editor lines))
 
 -- what comes of an entry from there, where `rest` says it of what is left of the document and the lines
-abbrev pub Comes : Reading → List Event → List (ℕ × Event) → Source → Entry → (List Event → List (ℕ × Event) → Type 0) → Type 0
+abbrev pub Comes : Reading → List (ℕ × Event) → List (ℕ × Event) → Source → Entry → (List (ℕ × Event) → List (ℕ × Event) → Type 0) → Type 0
 Comes r document lines Variable e rest = rest document lines
 Comes r document lines Loader e rest = ⊥
-Comes r (event ∷ document) lines (Editor n) e rest = (n ≡ 0) × (e ≡ admit r 0 event) × rest document lines
+Comes r (l ∷ document) lines (Editor n) e rest = (n ≡ l.0) × (e ≡ admit r l.0 l.1) × rest document lines
 Comes r [] lines (Editor n) e rest = MatchOption (first_line n lines) ⊥ (λ p. (e ≡ admit r n p.0) × rest [] p.1)
 
--- the external entries are `admit` of the lines, each editor's in order, each once; first those of the document, as editor 0
-abbrev pub TakesTurns : Reading → List Event → List (ℕ × Event) → List Entry → Type 0
+-- the external entries are `admit` of the lines, each once: first the document's in order, and then each editor's in order
+abbrev pub TakesTurns : Reading → List (ℕ × Event) → List (ℕ × Event) → List Entry → Type 0
 TakesTurns r document lines [] = (document ≡ []) × (lines ≡ [])
 TakesTurns r document lines (e ∷ es) = Comes r document lines (source_of e) e (λ document lines. TakesTurns (after r e) document lines es)
 
 -- a history of the document's lines and then the editors', at rest in the end
-pub record IsEdited (builtins : List (Field Value)) (document : List Event) (lines : List (ℕ × Event)) (log : List Entry) : Type 0 where
+pub record IsEdited (builtins : List (Field Value)) (document lines : List (ℕ × Event)) (log : List Entry) : Type 0 where
   pub legal : IsLegal builtins log
   pub rests : RestsAfter builtins log
   pub turns : TakesTurns (nothing_yet builtins) document lines log

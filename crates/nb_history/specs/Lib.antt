@@ -4,7 +4,13 @@ pub mod Reading
 pub mod Rules
 pub mod Log
 pub mod Serial
+pub mod Starts
+pub mod Batches
+pub mod Cleanups
+pub mod Work
+pub mod Parked
 pub mod Edited
+pub mod Ends
 pub mod Print
 pub mod History
 pub mod Headline

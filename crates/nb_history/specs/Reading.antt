@@ -6,12 +6,14 @@ use Rattle.nb_value.specs.declared.value.Value.{Value}
 use Rattle.nb_value.specs.declared.outcome.Outcome.{Outcome}
 use Rattle.nb_value.specs.declared.outcome.Answer.{Answer}
 
--- what a start rests on: the place of the body, the two marks, the inputs as resolved, each by its number, and the renewals of those that are variables
+-- what a start rests on: the place of the body, the two marks, the inputs as resolved, each by its number, and for a
+-- variable with neither mark the start numbers and the renewals of those that are variables
 pub record Footing : Type 0 where
   pub place : ℕ
   pub is_duplicate : Bool
   pub is_circular : Bool
   pub inputs : List ℕ
+  pub starts : List ℕ
   pub renewals : List ℕ
 
 -- a variable that isn't idle
@@ -58,6 +60,10 @@ shown r v = option_then (start_of r v) (λ s. s.shown)
 
 abbrev pub owed : Reading → ℕ → List Value
 owed r v = from_option [] (λ (s : Start). s.owed) (start_of r v)
+
+-- the present start's number, and 0 for an idle variable
+abbrev pub number : Reading → ℕ → ℕ
+number r v = from_option 0 (λ (s : Start). s.number) (start_of r v)
 
 -- the present start's renewal, and 0 for an idle variable
 abbrev pub renewal : Reading → ℕ → ℕ

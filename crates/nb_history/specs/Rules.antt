@@ -1,10 +1,10 @@
 -- Who leaves, who is due, who is ready, and what comes next of a ready variable.
-use Rattle.std.specs.Prelude.{ℕ, zero, suc, ◌+◌, Bool, true, false, cond, ◌&&◌, ◌||◌, not, ◌==◌, List, [], ◌∷◌, map, length, Option, Some, None, is_some, slice_get}
+use Rattle.std.specs.Prelude.{ℕ, zero, suc, ◌+◌, Bool, true, false, cond, ◌&&◌, ◌||◌, not, ◌==◌, nat_le, List, [], ◌∷◌, map, length, Option, Some, None, is_some, slice_get}
 use Rattle.std.specs.List.{list_any, list_all}
 use Rattle.std.specs.Fmt.{take_chars}
 use Rattle.nb_value.specs.declared.pairs.Field.{Field}
 use Rattle.nb_value.specs.Fields as fields
-use Rattle.nb_sheet.specs.Lists.{nth, Name, from_option, option_then, or_else}
+use Rattle.nb_sheet.specs.Lists.{nth, numbers, Name, from_option, option_then, or_else}
 use Rattle.nb_history.specs.Lists.{same_bool, same_numbers}
 use Rattle.nb_syntax.specs.Generator.{is_generator}
 use Rattle.nb_eval.specs.Evaluation.{Evaluated, evaluation as cell_evaluation}
@@ -13,7 +13,7 @@ use Rattle.nb_eval.specs.declared.given.Ending.TheVariants.{Paused, Needs, Done,
 use Rattle.nb_sheet.specs.Sheet.{Sheet}
 use Rattle.nb_resolve.specs.Names.{inputs, direct, duplicate}
 use Rattle.nb_history.specs.Needs.{circular, needed, is_used}
-use Rattle.nb_history.specs.Reading.{Reading, Start, Footing, start_of, is_idle, shown, renewal}
+use Rattle.nb_history.specs.Reading.{Reading, Start, Footing, start_of, is_idle, shown, number, renewal}
 use Rattle.nb_value.specs.declared.value.Value.{Value}
 use Rattle.nb_value.specs.declared.value.Value.TheVariants.{Null}
 use Rattle.nb_value.specs.declared.outcome.CellError.{CellError}
@@ -45,7 +45,7 @@ resolution_code (Builtin b) = 3 + (b + b)
 abbrev pub input_code : Name × Resolution → ℕ
 input_code i = resolution_code i.1
 
--- what v rests on now. Its inputs' names are those of its body
+-- what v rests on now. Its inputs' names are those of its body, and a duplicate has no inputs
 abbrev pub footing : Reading → ℕ → Footing
 footing r v =
     let marked = circular r.sheet v in
@@ -54,15 +54,20 @@ footing r v =
       is_duplicate = duplicate r.sheet v;
       is_circular = marked;
       inputs = map input_code (inputs r.sheet v);
+      starts = cond marked [] (map (number r) (direct r.sheet v));
       renewals = cond marked [] (map (renewal r) (direct r.sheet v));
     }
 
-abbrev pub same_footing : Footing → Footing → Bool
-same_footing f g =
+-- they differ in renewals at most
+abbrev pub same_base : Footing → Footing → Bool
+same_base f g =
     (f.place == g.place) && same_bool f.is_duplicate g.is_duplicate && same_bool f.is_circular g.is_circular
-    && same_numbers f.inputs g.inputs && same_numbers f.renewals g.renewals
+    && same_numbers f.inputs g.inputs && same_numbers f.starts g.starts
 
--- ---- leaving, due, ready
+abbrev pub same_footing : Footing → Footing → Bool
+same_footing f g = same_base f g && same_numbers f.renewals g.renewals
+
+-- ---- leaving, pulling, held, due, ready
 
 abbrev pub wanted : Reading → ℕ → Bool
 wanted r v = not r.disposed && is_used r.sheet v
@@ -74,19 +79,39 @@ leaving r v = not (wanted r v) && not (is_idle (start_of r v))
 abbrev pub is_behind : Reading → ℕ → Bool
 is_behind r v = from_option true (λ (s : Start). not (same_footing (footing r v) s.kept)) (start_of r v)
 
+-- only the renewals of v's inputs aren't the kept ones
+abbrev pub is_overtaken : Reading → ℕ → Bool
+is_overtaken r v =
+    from_option false (λ (s : Start). same_base (footing r v) s.kept && not (same_footing (footing r v) s.kept)) (start_of r v)
+
+abbrev pub is_running : Reading → ℕ → Bool
+is_running r v = from_option false (λ (s : Start). s.running) (start_of r v)
+
+abbrev pub pulls_of : Reading → ℕ → ℕ
+pulls_of r v = from_option 0 (λ (s : Start). s.pulls) (start_of r v)
+
+-- v runs at a second or later pull that still counts
+abbrev pub is_pulling : Reading → ℕ → Bool
+is_pulling r v = is_running r v && not (is_behind r v) && nat_le 2 (pulls_of r v)
+
+-- something is pulling
+abbrev pub pulls_on : Reading → Bool
+pulls_on r = list_any (is_pulling r) (numbers r.sheet.rows)
+
+-- something is pulling, and v or a variable that v needs is overtaken
+abbrev pub is_held : Reading → ℕ → Bool
+is_held r v = pulls_on r && (is_overtaken r v || list_any (is_overtaken r) (needed r.sheet v))
+
 abbrev pub due : Reading → ℕ → Bool
-due r v = wanted r v && is_behind r v
+due r v = wanted r v && is_behind r v && not (is_held r v)
 
 -- a due v may start: nothing that it needs is due, or it is circular
 abbrev pub may_start : Reading → ℕ → Bool
 may_start r v = due r v && (circular r.sheet v || not (list_any (due r) (needed r.sheet v)))
 
-abbrev pub is_running : Reading → ℕ → Bool
-is_running r v = from_option false (λ (s : Start). s.running) (start_of r v)
-
 abbrev pub ready : Reading → ℕ → Bool
 ready r v =
-    is_running r v
+    is_running r v && not (is_behind r v)
     && (duplicate r.sheet v || circular r.sheet v || list_all (λ u. is_some (shown r u)) (direct r.sheet v))
 
 -- ---- what a variable's present inputs give, where `shows` says what each variable shows
@@ -155,9 +180,6 @@ generates _ = false
 
 abbrev pub answers_of : Reading → ℕ → List Answer
 answers_of r v = from_option [] (λ (s : Start). s.answers) (start_of r v)
-
-abbrev pub pulls_of : Reading → ℕ → ℕ
-pulls_of r v = from_option 0 (λ (s : Start). s.pulls) (start_of r v)
 
 -- the evaluation of v, where its inputs show this
 abbrev pub evaluation : Reading → (ℕ → Option Outcome) → ℕ → Evaluated

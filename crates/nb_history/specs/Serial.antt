@@ -1,5 +1,5 @@
 -- The serial history of a list of lines.
-use Rattle.std.specs.Prelude.{ℕ, zero, suc, ◌≡◌, Bool, false, cond, not, ◌&&◌, List, [], ◌∷◌, Option, Some, None}
+use Rattle.std.specs.Prelude.{ℕ, zero, suc, ⊤, ◌≡◌, ◌<◌, Bool, false, cond, not, ◌&&◌, List, [], ◌∷◌, Option, Some, None}
 use Rattle.std.specs.List.{list_any}
 use Rattle.std.specs.Str.{bytes_eq}
 use Rattle.nb_value.specs.declared.pairs.Field.{Field}
@@ -64,11 +64,15 @@ outer_step r todo None = line_step r todo todo.lines
 abbrev pub may_load : Reading → Bool
 may_load r = not r.disposed && not (is_full r)
 
+-- the least live ticket that has a loader, where one may be run
+abbrev pub to_load : List Name → Reading → Option ℕ
+to_load keys r = cond (may_load r) (loader_ticket r keys) None
+
 -- the first possible entry
 abbrev pub first_step : List Name → Reading → Todo → Step
 first_step keys r todo =
     or_else (option_then (or_else (closing r) (next_of_ready r)) (λ e. Some (e, todo)))
-    (outer_step r todo (cond (may_load r) (loader_ticket r keys) None))
+    (outer_step r todo (to_load keys r))
 
 -- each entry is the first possible one, and `left` is still to come in the end
 abbrev pub SerialFrom : List Name → Reading → Todo → List Entry → Todo → Type 0
@@ -76,10 +80,16 @@ SerialFrom keys r todo [] left = todo ≡ left
 SerialFrom keys r todo (e ∷ es) left =
     (mid : Todo) × (first_step keys r todo ≡ Some (e, mid)) × SerialFrom keys (after r e) mid es left
 
--- the serial history: no entry is possible after it, and each answer was given
+-- the lines are of editors
+abbrev pub AreEditors : List (ℕ × Event) → Type 0
+AreEditors [] = ⊤
+AreEditors (l ∷ lines) = (l.0 < 8) × AreEditors lines
+
+-- the serial history: each answer was given, and after it no entry is possible and no loader is left to run
 pub record IsSerial (builtins : List (Field Value)) (keys : List Name) (lines : List (ℕ × Event)) (answers : List Answer) (log : List Entry) : Type 0 where
   pub steps : SerialFrom keys (nothing_yet builtins) (record { lines = lines; answers = answers }) log (record { lines = []; answers = [] })
   pub ends : first_step keys (read_from (nothing_yet builtins) log) (record { lines = []; answers = [] }) ≡ None
+  pub loaded : to_load keys (read_from (nothing_yet builtins) log) ≡ None
 
 -- the first entries of the serial history, at most n
 abbrev pub serial_within : List Name → ℕ → Reading → Todo → List Entry

@@ -1,22 +1,19 @@
 -- A run of lines keeps their history, and what is promised of it.
-use Rattle.std.proofs.Common.{ℕ, zero, suc, ◌≡◌, ◌<◌, ◌≤◌, ◌+◌, refl, sym, ◌∙◌, ap, subst, Bool, true, false, List, [], ◌∷◌, ◌++◌, append_assoc, length, drop, get_or, drop-cons, add-one, map, arith, Option, Some, None, Result, Ok, Err, OnOk, IfOk, IfErr}
-use Rattle.std.proofs.lemmas.Bool.{false≢true}
+use Rattle.std.proofs.Common.{ℕ, zero, suc, ◌≡◌, ◌<◌, ◌≤◌, ◌+◌, refl, sym, ◌∙◌, ap, subst, List, [], ◌∷◌, ◌++◌, append_assoc, length, drop, get_or, drop-cons, add-one, arith, Some, Result, Ok, Err, OnOk, IfOk, IfErr}
 use Rattle.std.proofs.lemmas.Option.{none-some}
 use Rattle.nb_value.specs.declared.value.Value.{Value}
 use Rattle.nb_value.specs.declared.pairs.Field.{Field}
-use Rattle.nb_log.specs.declared.event.Event.{Event}
 use Rattle.nb_log.specs.declared.entry.Entry.{Entry}
 use Rattle.nb_sheet.specs.declared.row.VarRow.{VarRow}
 use Rattle.nb_sheet.specs.Lists.{nth}
 use Rattle.nb_history.specs.Reading.{Reading}
-use Rattle.nb_history.specs.Rules.{wanted}
-use Rattle.nb_history.specs.Log.{nothing_yet, after, reading, read_from, admit, IsLegal, RestsAfter}
-use Rattle.nb_history.specs.Serial.{SerialFrom}
+use Rattle.nb_history.specs.Log.{nothing_yet, after, reading, read_from, admit, IsLegal}
+use Rattle.nb_history.specs.Serial.{SerialFrom, IsSerial}
 use Rattle.nb_history.specs.History.{History, standing, IsClosedHistory}
-use Rattle.nb_history.specs.Headline.{ShowsScratch, HoldsAtRests, IsHistoryOf}
-use Rattle.nb_history.proofs.Histories.{read_append, serial_append, closes_serial}
-use Rattle.nb_history.proofs.AtRests.{nothing, holds_on, holds_at_first}
-use Rattle.nb_core.specs.Core.{Gains, Settles, RestsOnScratch}
+use Rattle.nb_history.specs.Headline.{IsHistoryOf}
+use Rattle.nb_history.proofs.Histories.{read_append, serial_append, closes_serial, nothing}
+use Rattle.nb_history.proofs.RestHolds.{rest_holds}
+use Rattle.nb_history.proofs.Serials.{is_serial_rests}
 use Rattle.nb_core.proofs.Runs.{IsRun, run_goes_on, run_ends}
 use Rattle.nb_lines.specs.declared.script.ScriptLine.{ScriptLine}
 use Rattle.nb_lines.specs.Lines.{script_lines, AddsCell, AllAddCells}
@@ -28,15 +25,9 @@ use Rattle.nb_main.proofs.TicketLemmas.{AllSmall, small_append, small_admit, pla
 -- of the lines, those that are left are still to come, and all that is promised holds so far
 pub record IsRunning (lines left : List ScriptLine) (h : History) : Type 0 where
   pub run : IsRun [] (script_lines lines) (script_lines left) h
-  pub rests : HoldsAtRests h.builtins h.log
   pub legal : IsLegal h.builtins h.log
   pub small : AllSmall h.log
   pub plain : IsPlain (standing h).sheet.rows
-
--- before any entry no variable is wanted
-shows_nothing : ShowsScratch [] []
-shows_nothing zero w = absurd (false≢true w)
-shows_nothing (suc v) w = absurd (false≢true w)
 
 abbrev pub empty : History
 empty = record { builtins = []; log = [] }
@@ -49,7 +40,6 @@ pub running_begins : (lines : List ScriptLine) → IsRunning lines lines empty
 running_begins lines =
     record {
       run = record { over = refl; steps = refl; closed = refl; done = refl };
-      rests = holds_at_first [] shows_nothing;
       legal = tt;
       small = tt;
       plain = λ v row there. absurd (no_row v row there);
@@ -61,7 +51,7 @@ history_eq a b p q =
     ∙ ap (λ (l : List Entry). let h : History = record { builtins = b.builtins; log = l } in h) q
 
 module _ (lines left : List ScriptLine) (line : ScriptLine) (old new : History) (so_far : IsRunning lines (line ∷ left) old) (adds : AddsCell line)
-    (takes : TakesLine old line new) (closed : IsClosedHistory new) (rest : RestsOnScratch new) where
+    (takes : TakesLine old line new) (closed : IsClosedHistory new) where
   abbrev e : Entry
   e = admit (standing old) line.editor line.event
 
@@ -89,10 +79,6 @@ module _ (lines left : List ScriptLine) (line : ScriptLine) (old new : History) 
       (closes_serial [] (after (standing old) e) nothing takes.gains.es takes.gains.closes)
       (subst (λ (r : Reading). SerialFrom [] r nothing takes.settles.es nothing) mid_stands (takes.settles.serial [] nothing))
 
-  serial_here : SerialFrom [] (reading old.builtins (old.log ++ e ∷ [])) nothing (takes.gains.es ++ takes.settles.es) nothing
-  serial_here =
-      subst (λ (r : Reading). SerialFrom [] r nothing (takes.gains.es ++ takes.settles.es) nothing) (sym (read_append (nothing_yet old.builtins) old.log (e ∷ []))) serial
-
   plain_here : IsPlain (after (standing old) e).sheet.rows
   plain_here = plain_admit (standing old) line.editor line.event adds.1 so_far.plain
 
@@ -106,8 +92,6 @@ module _ (lines left : List ScriptLine) (line : ScriptLine) (old new : History) 
   running_goes_on =
       record {
         run = run_goes_on [] (script_lines lines) (script_lines left) line.editor line.event old takes.mid new so_far.run takes.gains takes.settles closed.closed;
-        rests = subst (λ (h : History). HoldsAtRests h.builtins h.log) (sym same)
-            (holds_on old.builtins old.log e (takes.gains.es ++ takes.settles.es) so_far.rests serial_here (subst RestsOnScratch same rest));
         legal = closed.legal;
         small = subst (λ (h : History). AllSmall h.log) (sym same)
             (small_append old.log (e ∷ (takes.gains.es ++ takes.settles.es)) so_far.small
@@ -131,14 +115,17 @@ none_left [] (suc i) h = refl
 none_left (x ∷ xs) zero h = absurd (omega (arith, h))
 none_left (x ∷ xs) (suc i) h = none_left xs i (omega (arith, h))
 
-pub running_ends : (lines all : List ScriptLine) (i : ℕ) (h : History) → length all ≤ i → IsRunning lines (drop i all) h → (h.builtins ≡ []) × IsHistoryOf [] (script_lines lines) h.log
+pub running_ends : (lines all : List ScriptLine) (i : ℕ) (h : History) → length all ≤ i → IsRunning lines (drop i all) h → (h.builtins ≡ []) × IsHistoryOf [] [] (script_lines lines) [] h.log
 running_ends lines all i h over so_far =
-    let whole : IsRunning lines [] h = subst (λ (left : List ScriptLine). IsRunning lines left h) (none_left all i over) so_far in (
+    let whole : IsRunning lines [] h = subst (λ (left : List ScriptLine). IsRunning lines left h) (none_left all i over) so_far in
+    let serial : IsSerial [] [] (script_lines lines) [] h.log = run_ends [] (script_lines lines) h whole.run in
+    let legal : IsLegal [] h.log = subst (λ (b : List (Field Value)). IsLegal b h.log) whole.run.over whole.legal in (
       whole.run.over,
       record {
-        serial = run_ends [] (script_lines lines) h whole.run;
-        legal = subst (λ (b : List (Field Value)). IsLegal b h.log) whole.run.over whole.legal;
-        rests = subst (λ (b : List (Field Value)). HoldsAtRests b h.log) whole.run.over whole.rests;
+        serial = serial;
+        legal = legal;
+        rests = rest_holds [] h.log legal;
+        ends_at_rest = is_serial_rests [] [] (script_lines lines) [] h.log serial;
       },
     )
 
@@ -155,8 +142,8 @@ begins_here lines h b none is =
     subst (IsRunning lines lines) (sym (is ∙ ap (λ (x : List (Field Value)). let e : History = record { builtins = x; log = [] } in e) none)) (running_begins lines)
 
 pub turn : (all : List ScriptLine) (i : ℕ) (line : ScriptLine) (old new : History) → i < length all → line ≡ get_or all i line → AllAddCells all → IsRunning all (drop i all) old
-    → TakesLine old line new → IsClosedHistory new → RestsOnScratch new → IsRunning all (drop (i + 1) all) new
-turn all i line old new inside is adds so_far takes closed rest =
+    → TakesLine old line new → IsClosedHistory new → IsRunning all (drop (i + 1) all) new
+turn all i line old new inside is adds so_far takes closed =
     running_goes_on all (drop (i + 1) all) line old new
     (subst (λ (x : ScriptLine). IsRunning all (x ∷ drop (i + 1) all) old) (sym is) (next_line all all i line old inside so_far))
-    (subst AddsCell (sym is) (adds_at all i line adds inside)) takes closed rest
+    (subst AddsCell (sym is) (adds_at all i line adds inside)) takes closed

@@ -8,7 +8,7 @@ use Rattle.nb_value.specs.declared.outcome.Answer.{Answer}
 use Rattle.nb_value.specs.declared.outcome.CellError.{CellError}
 use Rattle.nb_eval.specs.Evaluation.{Evaluated}
 use Rattle.nb_eval.specs.declared.given.Ending.{Ending}
-use Rattle.nb_eval.specs.declared.given.Ending.TheVariants.{Paused, Needs, Done, Failed}
+use Rattle.nb_eval.specs.declared.given.Ending.TheVariants.{Done, Failed}
 use Rattle.nb_eval.proofs.Endings.{ends}
 use Rattle.nb_syntax.specs.declared.tree.Cell.{Cell}
 use Rattle.nb_syntax.specs.Plain.{is_plain}
@@ -27,14 +27,13 @@ use Rattle.nb_resolve.specs.Names.{inputs}
 use Rattle.nb_sheet.specs.Lists.{nth, or_else, option_then, from_option}
 use Rattle.nb_sheet.specs.Sheet.{Sheet}
 use Rattle.nb_history.specs.Reading.{Reading, owed, shown}
-use Rattle.nb_history.specs.Rules.{leaving, ready, may_start, next, entry_of, run_body, generates, evaluated, evaluation, body_of, deciding_error, values_given, answers_of, pulls_of, done, first_value}
+use Rattle.nb_history.specs.Rules.{leaving, ready, may_start, next, entry_of, run_body, generates, evaluated, evaluation, body_of, deciding_error, values_given, answers_of, pulls_of, first_value}
 use Rattle.nb_history.specs.Log.{after, read_from, admit, first_refusal}
-use Rattle.nb_history.specs.Serial.{least_var, closing, next_of_ready, Todo, first_step, SerialFrom}
-use Rattle.nb_history.proofs.AtRests.{nothing, same_todo}
-use Rattle.nb_history.proofs.Histories.{no_step}
+use Rattle.nb_history.specs.Serial.{least_var, closing, Todo, first_step, SerialFrom}
+use Rattle.nb_history.proofs.Histories.{no_step, nothing, same_todo}
 use Rattle.nb_core.specs.Core.{IsAddedCell}
 use Rattle.nb_core.specs.State.{is_cell, row_of, IsPlain}
-use Rattle.nb_core.proofs.Locals.{nth_push}
+use Rattle.nb_history.proofs.EditedRows.{nth_push}
 
 -- each names none, or a small one
 abbrev pub AllSmall : List Entry → Type 0

@@ -26,7 +26,7 @@ refusal bytes = if nat_lt limit (length bytes) then Some (status.TooLong limit) 
 -- The text is the printing of the history of the lines that the bytes are.
 pub record IsOutcome (bytes text : List ℕ) : Type 0 where
   pub log : List Entry
-  pub history : IsHistoryOf [] (script_lines (scripts bytes)) log
+  pub history : IsHistoryOf [] [] (script_lines (scripts bytes)) [] log
   pub printed : text ≡ printing [] log
 
 -- An answer to bytes: their outcome, or their first fault. Memory may run out.

@@ -3,7 +3,7 @@ ghost use Rattle.nb_log.specs.Tickets.{HasSmallTickets};
 ghost use Rattle.nb_history.specs.Headline.{IsHistoryOf};
 ghost use Rattle.nb_history.specs.History.{IsClosedHistory, standing};
 ghost use Rattle.nb_history.specs.Log.{admit};
-ghost use Rattle.nb_core.specs.Core.{RestsOnScratch, Gains};
+ghost use Rattle.nb_core.specs.Core.{Gains};
 ghost use Rattle.nb_lines.specs.Lines.{script_lines, AddsCell, AllAddCells};
 ghost use Rattle.nb_main.specs.Run.{TakesLine};
 
@@ -17,7 +17,7 @@ use std::alloc::{AllocError, Global};
 pub fn history(alloc: Global, lines: &Scripts) -> Result<Core, AllocError>
     requires { AllAddCells lines.now }
     ensures builtins { IfOk result (λ core. core.builtins ≡ []) }
-    ensures history { IfOk result (λ core. IsHistoryOf [] (script_lines lines.now) core.log) }
+    ensures history { IfOk result (λ core. IsHistoryOf [] [] (script_lines lines.now) [] core.log) }
     ensures tickets { IfOk result (λ core. All HasSmallTickets core.log) }
 {
     let mut core = Core::new(alloc, Pairs::new(alloc))?;
@@ -32,7 +32,6 @@ fn take_line(alloc: Global, core: &mut Core, line: &ScriptLine) -> Result<(), Al
     requires { AddsCell line.now }
     ensures takes { OnOk result (TakesLine core.old line.now core.new) }
     ensures closed { OnOk result (IsClosedHistory core.new) }
-    ensures rest { OnOk result (RestsOnScratch core.new) }
 {
     add_line(alloc, core, line)?;
     settle(core)?;

@@ -1,7 +1,7 @@
 use Rattle.std.proofs.Common.{◌≡◌, ◌≤◌, ◌+◌, ◌-◌, rules, subst, length}
 use Rattle.nb_eval.specs.declared.state.State.{State}
 use Rattle.nb_eval.specs.Evaluation.{evaluation, run}
-use Rattle.nb_eval.proofs.Few.{few_yields}
+use Rattle.nb_eval.proofs.Yields.{few_yields}
 use Rattle.nb_eval.proofs.replay.run.Goals as goal
 
 pub made_of-requires : goal.made_of-requires

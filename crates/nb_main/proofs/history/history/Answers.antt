@@ -20,7 +20,13 @@ loop-line-preserved c =
     let inside : c.loop-line.line-index < length c.as_slice-line-items.result.now = omega arith in
     turn c.as_slice-line-items.result.now c.loop-line.line-index c.line-item.result c.loop-line.core c.take_line.new.core inside c.line-item.is
     (subst AllAddCells (sym c.as_slice-line-items.ensures) c.requires) c.loop-line.invariant
-    c.in_ok-take_line.ensures.takes c.in_ok-take_line.ensures.closed c.in_ok-take_line.ensures.rest
+    c.in_ok-take_line.ensures.takes c.in_ok-take_line.ensures.closed
 
 pub returns-clause-tickets : goal.returns-clause-tickets
 returns-clause-tickets c = all_small c.loop-line.core.log c.loop-line.invariant.small
+
+pub returns-clause-history : goal.returns-clause-history
+returns-clause-history c =
+    let over : length c.as_slice-line-items.result.now ≤ c.loop-line.line-index = omega arith in
+    subst (λ (all : List ScriptLine). IsHistoryOf [] [] (script_lines all) [] c.loop-line.core.log) c.as_slice-line-items.ensures
+    (running_ends c.as_slice-line-items.result.now c.as_slice-line-items.result.now c.loop-line.line-index c.loop-line.core over c.loop-line.invariant).1
