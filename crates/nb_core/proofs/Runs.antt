@@ -12,16 +12,9 @@ use Rattle.nb_history.specs.Serial.{closing, least_var, Todo, SerialFrom, IsSeri
 use Rattle.nb_history.specs.History.{History, standing}
 use Rattle.nb_history.proofs.Closing.{first_some}
 use Rattle.nb_history.proofs.Histories.{read_append, serial_append, closes_serial, ready_step, line_first, no_step, nothing_to_load}
-use Rattle.nb_core.specs.Core.{Gains, Settles}
+use Rattle.nb_core.specs.Core.{Gains, SettlesSoFar, Settles}
 
--- what the log has gained are the next entries of the serial history, whatever is still to come
-pub record IsSettling (old new : History) : Type 0 where
-  pub builtins : new.builtins ≡ old.builtins
-  pub es : List Entry
-  pub longer : new.log ≡ old.log ++ es
-  pub serial : (keys : List Name) (todo : Todo) → SerialFrom keys (standing old) todo es todo
-
-pub settling_begins : (h : History) → IsSettling h h
+pub settling_begins : (h : History) → SettlesSoFar h h
 settling_begins h = record { builtins = refl; es = []; longer = sym (append-nil h.log); serial = λ keys todo. refl }
 
 standing_longer : (old new : History) (es : List Entry) → new.builtins ≡ old.builtins → new.log ≡ old.log ++ es → standing new ≡ read_from (standing old) es
@@ -29,8 +22,8 @@ standing_longer old new es same longer =
     ap (λ (b : List (Field Value)). reading b new.log) same ∙ ap (reading old.builtins) longer ∙ read_append (nothing_yet old.builtins) old.log es
 
 -- the first ready variable shows what comes next
-pub settling_goes_on : (old mid new : History) (v : ℕ) → IsSettling old mid → closing (standing mid) ≡ None → least_var (standing mid) (ready (standing mid)) ≡ Some v
-    → Gains mid (next (standing mid) v) new → IsSettling old new
+pub settling_goes_on : (old mid new : History) (v : ℕ) → SettlesSoFar old mid → closing (standing mid) ≡ None → least_var (standing mid) (ready (standing mid)) ≡ Some v
+    → Gains mid (next (standing mid) v) new → SettlesSoFar old new
 settling_goes_on old mid new v s closed first g =
     let e = next (standing mid) v in
     let here : standing mid ≡ read_from (standing old) s.es = standing_longer old mid s.es s.builtins s.longer in
@@ -43,7 +36,7 @@ settling_goes_on old mid new v s closed first g =
           (todo, ready_step keys (standing mid) todo v closed first, closes_serial keys (after (standing mid) e) todo g.es g.closes));
     }
 
-pub settling_ends : (old new : History) → IsSettling old new → least_var (standing new) (ready (standing new)) ≡ None → Settles old new
+pub settling_ends : (old new : History) → SettlesSoFar old new → least_var (standing new) (ready (standing new)) ≡ None → Settles old new
 settling_ends old new s done = record { builtins = s.builtins; es = s.es; longer = s.longer; serial = s.serial; done = done }
 
 pub first_ready : (r : Reading) (v : ℕ) → least_var r (ready r) ≡ Some v → ready r v ≡ true

@@ -74,6 +74,13 @@ pub record Gains (old : History) (e : Entry) (new : History) : Type 0 where
   pub longer : new.log ≡ old.log ++ e ∷ es
   pub closes : Closes (after (standing old) e) es
 
+-- the log gained entries of the serial history, whatever is still to come
+pub record SettlesSoFar (old new : History) : Type 0 where
+  pub builtins : new.builtins ≡ old.builtins
+  pub es : List Entry
+  pub longer : new.log ≡ old.log ++ es
+  pub serial : (keys : List Name) (todo : Todo) → SerialFrom keys (standing old) todo es todo
+
 -- the log gained entries of the serial history, whatever is still to come, until nothing is ready
 pub record Settles (old new : History) : Type 0 where
   pub builtins : new.builtins ≡ old.builtins
@@ -122,12 +129,6 @@ shows_idle (now.Error e) = false
 pub record ShownIs (r : Reading) (v : ℕ) (s : ShownNow) : Type 0 where
   pub idle : shows_idle s ≡ is_idle (start_of r v)
   pub outcome : shown_outcome s ≡ shown r v
-
--- the log goes on with further entries
-pub record IsLonger (old new : History) : Type 0 where
-  pub builtins : new.builtins ≡ old.builtins
-  pub es : List Entry
-  pub longer : new.log ≡ old.log ++ es
 
 -- where the log rests, every wanted variable shows what evaluating from scratch gives
 abbrev pub RestsOnScratch : History → Type 0

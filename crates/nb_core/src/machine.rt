@@ -8,7 +8,7 @@ ghost use Rattle.nb_history.specs.History.{standing, IsClosedHistory};
 ghost use Rattle.nb_history.specs.Log.{admit, Rests};
 ghost use Rattle.nb_history.specs.Rules.{ready as ready_of, next, wanted as wanted_of, scratch};
 ghost use Rattle.nb_history.specs.Serial.{least_var};
-ghost use Rattle.nb_core.specs.Core.{IsAddedCell, IsAdmitted, Gains, Places, IsLonger, Settles, ShownIs, work_of, start_number, shown_outcome, running, RestsOnScratch};
+ghost use Rattle.nb_core.specs.Core.{IsAddedCell, IsAdmitted, Gains, Places, SettlesSoFar, Settles, ShownIs, work_of, start_number, shown_outcome, running, RestsOnScratch};
 
 use crate::adding::{edit_entry, edit_of, grow};
 use crate::done::{copy_outcome, done_of, entry_of, outcome};
@@ -292,13 +292,13 @@ fn step(core: &mut Core, var: u32) -> Result<(), AllocError>
     }
 }
 
-/// Shows the outcomes of what is ready, the least variable first, until nothing is. Where memory runs out,
-/// the log keeps what was shown before. It costs one evaluation for each variable that runs.
+/// Shows the outcomes of what is ready, the least variable first, until nothing is. Where memory runs out, the log keeps
+/// what was shown before: entries of the serial history. It costs one evaluation for each variable that runs.
 pub fn settle(core: &mut Core) -> Result<(), AllocError>
     ensures ok { OnOk result (Settles core.old core.new) }
     ensures closed { OnOk result (IsClosedHistory core.new) }
     ensures rest { OnOk result (RestsOnScratch core.new) }
-    ensures err { OnErr result (IsLonger core.old core.new) }
+    ensures err { OnErr result (SettlesSoFar core.old core.new) }
 {
     loop {
         match core.next_ready() {

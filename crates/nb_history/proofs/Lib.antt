@@ -29,6 +29,8 @@ pub mod BatchesEnd
 pub mod Turns
 pub mod Ending
 pub mod Loading
+pub mod LoaderRuns
+pub mod Reached
 pub mod HistoryThere
 pub mod Batches
 pub mod Cells

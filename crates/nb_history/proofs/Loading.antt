@@ -14,7 +14,7 @@ use Rattle.nb_history.specs.Log.{nothing_yet, after, read_from, reading, IsLegal
 use Rattle.nb_history.specs.Serial.{least_var, closing, Todo, loader_ticket, outer_step, may_load, to_load, first_step, AreEditors, SerialFrom}
 use Rattle.nb_history.specs.Starts.{is_of_variable}
 use Rattle.nb_history.specs.Work.{to_do}
-use Rattle.nb_history.specs.Ends.{IsBetween, AreBetween, LoadsEnd, Loaders, IsTold, AreTold, SerialEnds}
+use Rattle.nb_history.specs.Ends.{IsBetween, AreBetween, LoadsEnd, Answering, IsTold, AreTold, SerialEnds}
 use Rattle.nb_log.specs.declared.event.Event.{Event}
 use Rattle.nb_log.specs.declared.entry.Entry.{Entry}
 use Rattle.nb_log.specs.declared.entry.Entry.TheVariants.{Edit, Frame, Settled, Late, Loaded, Refused, Rest, Dispose, Pending, Fulfilled, Rejected, Asked, Ended, Left}
@@ -29,7 +29,7 @@ use Rattle.nb_history.proofs.ToDo.{Fit, fit_after, fit_from, fit_first, fit_log,
 
 -- ---- which entries are told of
 
-variable_told : (answer : Loaders) (r : Reading) (e : Entry) → is_of_variable e ≡ true → IsTold answer r e
+variable_told : (answer : Answering) (r : Reading) (e : Entry) → is_of_variable e ≡ true → IsTold answer r e
 variable_told answer r (Left v d) h = tt
 variable_told answer r (Pending v d) h = tt
 variable_told answer r (Fulfilled v x) h = tt
@@ -38,7 +38,7 @@ variable_told answer r (Asked v t key) h = tt
 variable_told answer r (Ended v) h = tt
 variable_told answer r e h = absurd (false≢true h)
 
-line_told : (answer : Loaders) (r : Reading) (e : Entry) → is_line e ≡ true → IsTold answer r e
+line_told : (answer : Answering) (r : Reading) (e : Entry) → is_line e ≡ true → IsTold answer r e
 line_told answer r (Edit editor edit) h = tt
 line_told answer r (Frame editor) h = tt
 line_told answer r (Settled editor t a) h = tt
@@ -48,7 +48,7 @@ line_told answer r (Rest editor) h = tt
 line_told answer r (Dispose editor) h = tt
 line_told answer r e h = absurd (false≢true h)
 
-told_append : (answer : Loaders) (r : Reading) (es fs : List Entry) → AreTold answer r es → AreTold answer (read_from r es) fs → AreTold answer r (es ++ fs)
+told_append : (answer : Answering) (r : Reading) (es fs : List Entry) → AreTold answer r es → AreTold answer (read_from r es) fs → AreTold answer r (es ++ fs)
 told_append answer r [] fs h k = k
 told_append answer r (e ∷ es) fs h k = (h.0, told_append answer (after r e) es fs h.1 k)
 
@@ -57,7 +57,7 @@ told_append answer r (e ∷ es) fs h k = (h.0, told_append answer (after r e) es
 abbrev pub to_come : List (ℕ × Event) → List Answer → Todo
 to_come lines answers = record { lines = lines; answers = answers }
 
-pub record Works (keys : List Name) (answer : Loaders) (r : Reading) : Type 0 where
+pub record Works (keys : List Name) (answer : Answering) (r : Reading) : Type 0 where
   pub es : List Entry
   pub used : List Answer
   pub serial : (lines : List (ℕ × Event)) (more : List Answer) → SerialFrom keys r (to_come lines (used ++ more)) es (to_come lines more)
@@ -92,7 +92,7 @@ may_be_loaded keys r t h = go (may_load r) refl
           room = not-true (is_full r) p.1;
         }
 
-module _ (keys : List Name) (answer : Loaders) where
+module _ (keys : List Name) (answer : Answering) where
   -- an entry of a variable, and the work from there
   works_on : (r : Reading) (e : Entry) → is_of_variable e ≡ true → ((todo : Todo) → first_step keys r todo ≡ Some (e, todo)) → Fits r e → Works keys answer (after r e) → Works keys answer r
   works_on r e is step fits w = record {

@@ -1,9 +1,13 @@
 -- That between two lines the work ends, so that the serial history of any lines is there.
-use Rattle.std.specs.Prelude.{ℕ, ⊤, ◌+◌, ◌*◌, ◌≡◌, ◌<◌, ◌≤◌, true, false, Some, None, List, [], ◌∷◌, ◌++◌, length}
+use Rattle.std.specs.Prelude.{ℕ, ⊤, ◌+◌, ◌*◌, ◌≡◌, ◌<◌, ◌≤◌, true, false, Some, None, List, [], ◌∷◌, ◌++◌, length, Result}
+use Rattle.std.specs.List.{flat_map}
 use Rattle.nb_value.specs.declared.value.Value.{Value}
 use Rattle.nb_value.specs.declared.pairs.Field.{Field}
 use Rattle.nb_value.specs.declared.outcome.Answer.{Answer}
-use Rattle.nb_sheet.specs.Lists.{Name}
+use Rattle.nb_io.specs.declared.spawner.ChildRun.{ChildRun}
+use Rattle.nb_io.specs.declared.spawner.ChildEnd.{ChildEnd}
+use Rattle.nb_io.specs.declared.spawner.SpawnFail.{SpawnFail}
+use Rattle.nb_sheet.specs.Lists.{Name, from_option}
 use Rattle.nb_log.specs.declared.event.Event.{Event}
 use Rattle.nb_log.specs.declared.entry.Entry.{Entry}
 use Rattle.nb_log.specs.declared.entry.Entry.TheVariants.{Loaded, Asked}
@@ -11,9 +15,11 @@ use Rattle.nb_history.specs.Reading.{Reading, Start, start_of}
 use Rattle.nb_history.specs.Rules.{pulls_on}
 use Rattle.nb_history.specs.Log.{nothing_yet, after, reading, Fits, LegalFrom, IsLegal, IsQuiet, RestsAfter}
 use Rattle.nb_history.specs.Serial.{Todo, SerialFrom, to_load, AreEditors, IsSerial, serial_within}
+use Rattle.nb_history.specs.Loaders.{Loader, keys_of, argv_for, output_limit, IsAnswerOf, answers_in, AreRuns}
 use Rattle.nb_history.specs.Starts.{is_of_variable, AllOfVariables}
 use Rattle.nb_history.specs.Edited.{IsEdited}
-use Rattle.nb_history.specs.Headline.{IsHistoryOf}
+use Rattle.nb_history.specs.Headline.{IsHistoryOf, IsReached}
+use Rattle.nb_history.specs.Print.{entry_pieces, pieces, printing}
 use Rattle.nb_history.specs.Work.{later_pulls, to_do}
 
 -- an entry of a variable, or a loader's answer: what may come between two lines
@@ -82,21 +88,21 @@ WorkEnds = (builtins : List (Field Value)) (log : List Entry) → IsLegal builti
 
 -- ---- with loaders
 
--- what the run of a loader answers, for its ticket at its place
-abbrev pub Loaders : Type 0
-Loaders = Reading → ℕ → Answer
+-- what a loader answers, for its ticket at its place
+abbrev pub Answering : Type 0
+Answering = Reading → ℕ → Answer
 
 -- each answer of a loader is as they say
-abbrev pub IsTold : Loaders → Reading → Entry → Type 0
+abbrev pub IsTold : Answering → Reading → Entry → Type 0
 IsTold answer r (Loaded t a) = a ≡ answer r t
 IsTold answer r e = ⊤
 
-abbrev pub AreTold : Loaders → Reading → List Entry → Type 0
+abbrev pub AreTold : Answering → Reading → List Entry → Type 0
 AreTold answer r [] = ⊤
 AreTold answer r (e ∷ es) = IsTold answer r e × AreTold answer (after r e) es
 
 -- with loaders for these keys that give these answers, the serial history goes on until the log rests and no loader is to be run
-pub record EndOfLoads (builtins : List (Field Value)) (log : List Entry) (keys : List Name) (answer : Loaders) : Type 0 where
+pub record EndOfLoads (builtins : List (Field Value)) (log : List Entry) (keys : List Name) (answer : Answering) : Type 0 where
   pub es : List Entry
   pub used : List Answer
   pub serial : (lines : List (ℕ × Event)) (more : List Answer)
@@ -109,13 +115,13 @@ pub record EndOfLoads (builtins : List (Field Value)) (log : List Entry) (keys :
 
 abbrev pub LoadsEnd : Type 0
 LoadsEnd =
-    (builtins : List (Field Value)) (log : List Entry) (keys : List Name) (answer : Loaders) → IsLegal builtins log
+    (builtins : List (Field Value)) (log : List Entry) (keys : List Name) (answer : Answering) → IsLegal builtins log
     → EndOfLoads builtins log keys answer
 
 -- ---- the serial history is there
 
 -- the serial history of the lines, with loaders for these keys that give these answers
-pub record SerialHistory (builtins : List (Field Value)) (keys : List Name) (answer : Loaders) (lines : List (ℕ × Event)) : Type 0 where
+pub record SerialHistory (builtins : List (Field Value)) (keys : List Name) (answer : Answering) (lines : List (ℕ × Event)) : Type 0 where
   pub log : List Entry
   pub used : List Answer
   pub serial : IsSerial builtins keys lines used log
@@ -125,7 +131,7 @@ pub record SerialHistory (builtins : List (Field Value)) (keys : List Name) (ans
 -- it is there, whatever the loaders answer
 abbrev pub SerialEnds : Type 0
 SerialEnds =
-    (builtins : List (Field Value)) (keys : List Name) (answer : Loaders) (lines : List (ℕ × Event)) → AreEditors lines
+    (builtins : List (Field Value)) (keys : List Name) (answer : Answering) (lines : List (ℕ × Event)) → AreEditors lines
     → SerialHistory builtins keys answer lines
 
 -- and with no loader it uses no answer
@@ -166,27 +172,77 @@ EditedIsThere =
 
 -- ---- what is promised at rests holds of them
 
--- each serial history of editors' lines is a history of them, as it is promised
+-- each serial history of editors' lines, whose answers are those of runs, is a history of them, as it is promised
 abbrev pub SerialIsHistory : Type 0
 SerialIsHistory =
-    (builtins : List (Field Value)) (keys : List Name) (lines : List (ℕ × Event)) (answers : List Answer) (log : List Entry)
-    → AreEditors lines → IsSerial builtins keys lines answers log → IsHistoryOf builtins keys lines answers log
+    (builtins : List (Field Value)) (loaders : List Loader) (lines : List (ℕ × Event)) (runs : List ChildRun) (log : List Entry)
+    → AreEditors lines → IsSerial builtins (keys_of loaders) lines (answers_in log) log → AreRuns loaders (nothing_yet builtins) log runs
+    → IsHistoryOf builtins loaders lines runs log
 
--- a history of the lines, in which the loaders gave their answers
-pub record ToldHistory (builtins : List (Field Value)) (keys : List Name) (answer : Loaders) (lines : List (ℕ × Event)) : Type 0 where
-  pub log : List Entry
-  pub used : List Answer
-  pub history : IsHistoryOf builtins keys lines used log
-  pub told : AreTold answer (nothing_yet builtins) log
+-- how the program for a ticket ends, at its place, and what that answers
+pub record Programs : Type 0 where
+  pub ends : Reading → ℕ → Result ChildEnd SpawnFail
+  pub answer : Answering
+  pub each : (r : Reading) (t : ℕ) → IsAnswerOf (ends r t) (answer r t)
 
--- it is there, whatever the loaders answer
+-- the runs of these programs in a log, one for each answer
+abbrev pub runs_of : List Loader → Programs → Reading → List Entry → List ChildRun
+runs_of loaders programs r [] = []
+runs_of loaders programs r (Loaded t a ∷ es) =
+    record { argv = from_option [] (λ (argv : List Name). argv) (argv_for loaders r t); limit = output_limit; answer = programs.ends r t } ∷ runs_of loaders programs (after r (Loaded t a)) es
+runs_of loaders programs r (e ∷ es) = runs_of loaders programs (after r e) es
+
+-- it is there, however the programs end
 abbrev pub HistoryIsThere : Type 0
 HistoryIsThere =
-    (builtins : List (Field Value)) (keys : List Name) (answer : Loaders) (lines : List (ℕ × Event)) → AreEditors lines
-    → ToldHistory builtins keys answer lines
+    (builtins : List (Field Value)) (loaders : List Loader) (programs : Programs) (lines : List (ℕ × Event)) → AreEditors lines
+    → (log : List Entry) × IsHistoryOf builtins loaders lines (runs_of loaders programs (nothing_yet builtins) log) log
 
--- and with no loader it uses no answer
+-- and with no loader no program is run
 abbrev pub HistoryIsThereAlone : Type 0
 HistoryIsThereAlone =
     (builtins : List (Field Value)) (lines : List (ℕ × Event)) → AreEditors lines
     → (log : List Entry) × IsHistoryOf builtins [] lines [] log
+
+-- ---- what runs say of it
+
+-- a run has one answer
+abbrev pub AnswerIsOne : Type 0
+AnswerIsOne = (end : Result ChildEnd SpawnFail) (a b : Answer) → IsAnswerOf end a → IsAnswerOf end b → a ≡ b
+
+-- the answers that a serial history uses are those in its entries
+abbrev pub AnswersAreIn : Type 0
+AnswersAreIn =
+    (builtins : List (Field Value)) (keys : List Name) (lines : List (ℕ × Event)) (answers : List Answer) (log : List Entry)
+    → IsSerial builtins keys lines answers log → answers ≡ answers_in log
+
+-- the lines, the loaders and the runs determine the history
+abbrev pub HistoryIsOne : Type 0
+HistoryIsOne =
+    (builtins : List (Field Value)) (loaders : List Loader) (lines : List (ℕ × Event)) (runs : List ChildRun) (log other : List Entry)
+    → IsHistoryOf builtins loaders lines runs log → IsHistoryOf builtins loaders lines runs other → log ≡ other
+
+-- what is reached is legal
+abbrev pub ReachedIsLegal : Type 0
+ReachedIsLegal =
+    (builtins : List (Field Value)) (loaders : List Loader) (lines : List (ℕ × Event)) (runs : List ChildRun) (log : List Entry)
+    → AreEditors lines → IsReached builtins loaders lines runs log → IsLegal builtins log
+
+-- and a front of each history in which the same runs come first, whatever runs come later
+abbrev pub ReachedIsFront : Type 0
+ReachedIsFront =
+    (builtins : List (Field Value)) (loaders : List Loader) (lines : List (ℕ × Event)) (runs more : List ChildRun) (log whole : List Entry)
+    → IsReached builtins loaders lines runs log → IsHistoryOf builtins loaders lines (runs ++ more) whole
+    → (back : List Entry) × (whole ≡ log ++ back)
+
+-- ---- what is written of it, in pieces
+
+-- the lines that are printed, put together, are the printing
+abbrev pub PiecesArePrinting : Type 0
+PiecesArePrinting = (builtins : List (Field Value)) (log : List Entry) → flat_map (λ (piece : List ℕ). piece) (pieces builtins log) ≡ printing builtins log
+
+-- those of the entries of a front come first
+abbrev pub FrontIsWrittenFirst : Type 0
+FrontIsWrittenFirst =
+    (builtins : List (Field Value)) (front back : List Entry)
+    → (more : List (List ℕ)) × (pieces builtins (front ++ back) ≡ entry_pieces front ++ more)

@@ -4,6 +4,7 @@ pub mod Reading
 pub mod Rules
 pub mod Log
 pub mod Serial
+pub mod Loaders
 pub mod Starts
 pub mod Batches
 pub mod Cleanups

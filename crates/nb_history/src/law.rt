@@ -3,7 +3,7 @@
 ghost use Rattle.nb_history.specs.Starts.{StartsOnce, RunsAreShort, SomeMayStart, ClosesSoon, StartsOnceBetween, SerialPullsNothing};
 ghost use Rattle.nb_history.specs.Batches.{PullingIsReady, RestHoldsNothing, DueNeedsNothingHeld, DueWhereBehind};
 ghost use Rattle.nb_history.specs.Cleanups.{CleansUpOnce};
-ghost use Rattle.nb_history.specs.Ends.{PullsNeverGrow, PullsAskFew, AnswersStartNothing, AllUseUp, BetweenLinesEnds, VariablesEndSoon, BatchEndsSoon, WorkEnds, LoadsEnd, SerialEnds, SerialEndsAlone, SerialIsLegal, SerialIsOne, SerialRests, SerialIsFirst, EditedIsThere, SerialIsHistory, HistoryIsThere, HistoryIsThereAlone};
+ghost use Rattle.nb_history.specs.Ends.{PullsNeverGrow, PullsAskFew, AnswersStartNothing, AllUseUp, BetweenLinesEnds, VariablesEndSoon, BatchEndsSoon, WorkEnds, LoadsEnd, SerialEnds, SerialEndsAlone, SerialIsLegal, SerialIsOne, SerialRests, SerialIsFirst, EditedIsThere, SerialIsHistory, HistoryIsThere, HistoryIsThereAlone, AnswerIsOne, AnswersAreIn, HistoryIsOne, ReachedIsLegal, ReachedIsFront, PiecesArePrinting, FrontIsWrittenFirst};
 ghost use Rattle.nb_history.specs.Parked.{ReadyKeepsInputs, AskGoesOn, ValueGoesOn};
 ghost use Rattle.nb_history.specs.Headline.{RestsHold};
 
@@ -76,9 +76,26 @@ pub fn law_of_parked()
 {}
 
 /// A law, with nothing to run: each serial history of editors' lines is a history of them, as it is promised, and it is
-/// there, whatever the loaders answer.
+/// there, however the programs of loaders end. The lines, the loaders and the runs determine it.
 pub fn law_of_history()
     ensures serial { SerialIsHistory }
     ensures there { HistoryIsThere }
     ensures alone { HistoryIsThereAlone }
+    ensures one { HistoryIsOne }
+{}
+
+/// A law, with nothing to run: a run of a program has one answer, and the answers that a serial history uses are those in
+/// its entries. What a call had reached that stopped is legal, and a front of the history in which those runs come first.
+pub fn law_of_loaders()
+    ensures answer { AnswerIsOne }
+    ensures answers { AnswersAreIn }
+    ensures legal { ReachedIsLegal }
+    ensures front { ReachedIsFront }
+{}
+
+/// A law, with nothing to run: the lines of a printing, one after another, are the printing, and those of a log's first
+/// entries come first.
+pub fn law_of_pieces()
+    ensures whole { PiecesArePrinting }
+    ensures first { FrontIsWrittenFirst }
 {}

@@ -12,8 +12,7 @@ use Rattle.nb_history.specs.Serial.{SerialFrom, IsSerial}
 use Rattle.nb_history.specs.History.{History, standing, IsClosedHistory}
 use Rattle.nb_history.specs.Headline.{IsHistoryOf}
 use Rattle.nb_history.proofs.Histories.{read_append, serial_append, closes_serial, nothing}
-use Rattle.nb_history.proofs.RestHolds.{rest_holds}
-use Rattle.nb_history.proofs.Serials.{is_serial_rests}
+use Rattle.nb_history.proofs.HistoryThere.{history_alone}
 use Rattle.nb_core.proofs.Runs.{IsRun, run_goes_on, run_ends}
 use Rattle.nb_lines.specs.declared.script.ScriptLine.{ScriptLine}
 use Rattle.nb_lines.specs.Lines.{script_lines, AddsCell, AllAddCells}
@@ -121,12 +120,7 @@ running_ends lines all i h over so_far =
     let serial : IsSerial [] [] (script_lines lines) [] h.log = run_ends [] (script_lines lines) h whole.run in
     let legal : IsLegal [] h.log = subst (λ (b : List (Field Value)). IsLegal b h.log) whole.run.over whole.legal in (
       whole.run.over,
-      record {
-        serial = serial;
-        legal = legal;
-        rests = rest_holds [] h.log legal;
-        ends_at_rest = is_serial_rests [] [] (script_lines lines) [] h.log serial;
-      },
+      history_alone [] (script_lines lines) h.log legal serial,
     )
 
 -- ---- as the calls have it
