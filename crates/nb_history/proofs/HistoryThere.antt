@@ -1,4 +1,4 @@
--- Each serial history of editors' lines is a history of them, as it is promised, and it is there.
+-- Each serial history of editors' lines is a history of them, given it is promised, and it is there.
 use Rattle.std.proofs.Common.{ℕ, ◌≡◌, sym, subst, List, []}
 use Rattle.nb_value.specs.declared.value.Value.{Value}
 use Rattle.nb_value.specs.declared.pairs.Field.{Field}
@@ -30,7 +30,7 @@ pub history_is_there : HistoryIsThere
 history_is_there builtins loaders programs lines editors =
     let h : SerialHistory builtins (keys_of loaders) programs.answer lines = serial_ends builtins (keys_of loaders) programs.answer lines editors in
     let used : IsSerial builtins (keys_of loaders) lines (answers_in h.log) h.log
-    = subst (λ (as : List Answer). IsSerial builtins (keys_of loaders) lines as h.log) (answers_are_in builtins (keys_of loaders) lines h.used h.log h.serial) h.serial in (
+    = subst (λ (given : List Answer). IsSerial builtins (keys_of loaders) lines given h.log) (answers_are_in builtins (keys_of loaders) lines h.used h.log h.serial) h.serial in (
       h.log,
       serial_is_history builtins loaders lines _ h.log editors used
           (runs_are loaders programs (nothing_yet builtins) (record { lines = lines; answers = h.used }) (record { lines = []; answers = [] }) h.log h.serial.steps h.told),
@@ -40,7 +40,7 @@ history_is_there builtins loaders programs lines editors =
 pub history_alone : (builtins : List (Field Value)) (lines : List (ℕ × Event)) (log : List Entry) → IsLegal builtins log → IsSerial builtins [] lines [] log → IsHistoryOf builtins [] lines [] log
 history_alone builtins lines log legal serial =
     let none : [] ≡ answers_in log = answers_are_in builtins [] lines [] log serial in record {
-      serial = subst (λ (as : List Answer). IsSerial builtins [] lines as log) none serial;
+      serial = subst (λ (given : List Answer). IsSerial builtins [] lines given log) none serial;
       told = no_runs [] (nothing_yet builtins) log (sym none);
       legal = legal;
       rests = rest_holds builtins log legal;

@@ -30,6 +30,7 @@ pub mod Turns
 pub mod Ending
 pub mod Loading
 pub mod LoaderRuns
+pub mod LoaderRows
 pub mod Reached
 pub mod HistoryThere
 pub mod Batches

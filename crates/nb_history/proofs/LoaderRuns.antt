@@ -1,5 +1,5 @@
 -- The runs of loaders in a serial history: the answers that it uses are those in its entries, each of one run.
-use Rattle.std.proofs.Common.{ℕ, ◌≡◌, refl, sym, ◌∙◌, ap, subst, Bool, true, false, cond, List, [], ◌∷◌, ◌++◌, append_assoc, append_nil, map, Option, Some, None, Result, Ok, Err}
+use Rattle.std.proofs.Common.{ℕ, ◌≡◌, refl, sym, ◌∙◌, ap, subst, Bool, true, false, cond, ◌&&◌, ◌||◌, List, [], ◌∷◌, ◌++◌, append_assoc, append-nil, Option, Some, None, Ok, Err}
 use Rattle.std.specs.List.{list_any}
 use Rattle.std.specs.Prelude.{⊤, MatchBool, codes}
 use Rattle.std.specs.Fmt.{signed_decimal}
@@ -7,25 +7,22 @@ use Rattle.std.specs.Str.{bytes_eq}
 use Rattle.std.proofs.lemmas.Bool.{and_parts, false≢true}
 use Rattle.std.proofs.lemmas.Option.{none-some, same_Some, some_pair_parts}
 use Rattle.nb_value.specs.declared.value.Value.{Value}
-use Rattle.nb_value.specs.declared.pairs.Field.{Field}
 use Rattle.nb_value.specs.declared.outcome.Answer.{Answer}
 use Rattle.nb_value.specs.declared.outcome.Answer.TheVariants.{Value as Given, Failure}
-use Rattle.nb_value.specs.Json.{IsJsonOf, FitsLimits}
+use Rattle.nb_value.specs.Json.{IsJsonOf}
 use Rattle.nb_io.specs.declared.spawner.ChildRun.{ChildRun}
-use Rattle.nb_io.specs.declared.spawner.ChildEnd.{ChildEnd}
-use Rattle.nb_io.specs.declared.spawner.SpawnFail.{SpawnFail}
 use Rattle.nb_io.specs.declared.spawner.SpawnFail.TheVariants.{Failed, TooLong, Memory}
 use Rattle.nb_sheet.specs.Lists.{Name, nth, numbers, from_option, option_then, or_else}
 use Rattle.nb_history.specs.Reading.{Reading, Ticket}
 use Rattle.nb_history.specs.Rules.{ready, next}
-use Rattle.nb_history.specs.Log.{nothing_yet, after, read_from, admit, is_live}
+use Rattle.nb_history.specs.Log.{nothing_yet, after, admit, is_live}
 use Rattle.nb_history.specs.Serial.{least_var, closing, next_of_ready, Todo, line_step, loader_ticket, loaded_step, outer_step, may_load, to_load, first_step, SerialFrom}
-use Rattle.nb_history.specs.Loaders.{Loader, keys_of, argv_of, argv_for, is_zero, GivesOutput, IsAnswerOf, answer_in, answers_in, IsRunFor, AreRuns}
+use Rattle.nb_history.specs.Loaders.{Loader, keys_of, argv_of, argv_for, is_zero, GivesOutput, IsAnswerOf, answer_in, answers_in, AreRuns}
 use Rattle.nb_history.specs.Starts.{is_of_variable}
-use Rattle.nb_history.specs.Ends.{Programs, IsTold, AreTold, runs_of, AnswerIsOne, AnswersAreIn}
+use Rattle.nb_history.specs.Ends.{Programs, AreTold, runs_of, AnswerIsOne, AnswersAreIn}
 use Rattle.nb_log.specs.declared.event.Event.{Event}
 use Rattle.nb_log.specs.declared.entry.Entry.{Entry}
-use Rattle.nb_log.specs.declared.entry.Entry.TheVariants.{Edit, Frame, Settled, Late, Loaded, Refused, Rest, Dispose, Pending, Fulfilled, Rejected, Asked, Ended, Left}
+use Rattle.nb_log.specs.declared.entry.Entry.TheVariants.{Loaded}
 use Rattle.nb_history.proofs.Closing.{first_some}
 use Rattle.nb_history.proofs.RunsEnd.{closing_well}
 use Rattle.nb_history.proofs.NextEntry.{next_outcome}
@@ -125,7 +122,7 @@ module _ (keys : List Name) (r : Reading) (todo : Todo) (e : Entry) (mid : Todo)
       let x : Entry = admit r l.0 l.1 in
       same_step x (record todo { lines = lines })
       (record {
-        answers = ap (λ (as : List Answer). as ++ todo.answers) (sym (line_takes_none x (admit_line r l.0 l.1)));
+        answers = ap (λ (given : List Answer). given ++ todo.answers) (sym (line_takes_none x (admit_line r l.0 l.1)));
         ticket = line_loads_none keys r x (admit_line r l.0 l.1);
         longer = λ more. step (behind todo more) ∙ ap (line_step r (behind todo more)) p;
       })
@@ -139,7 +136,7 @@ module _ (keys : List Name) (r : Reading) (todo : Todo) (e : Entry) (mid : Todo)
       (record {
         answers = p;
         ticket = load;
-        longer = λ more. step (behind todo more) ∙ ap (λ (as : List Answer). loaded_step (behind todo more) t (as ++ more)) p;
+        longer = λ more. step (behind todo more) ∙ ap (λ (given : List Answer). loaded_step (behind todo more) t (given ++ more)) p;
       })
       (sym (step todo ∙ ap (loaded_step todo t) p) ∙ h)
 
@@ -158,7 +155,7 @@ pub serial_answers : (keys : List Name) (r : Reading) (todo left : Todo) (es : L
 serial_answers keys r todo left [] h = ap (λ (t : Todo). t.answers) h
 serial_answers keys r todo left (e ∷ es) h =
     (step_takes keys r todo e h.0 h.1).answers
-    ∙ ap (λ (as : List Answer). answer_in e ++ as) (serial_answers keys (after r e) h.0 left es h.2)
+    ∙ ap (λ (given : List Answer). answer_in e ++ given) (serial_answers keys (after r e) h.0 left es h.2)
     ∙ sym (append_assoc (answer_in e) (answers_in es) left.answers)
 
 pub serial_longer : (keys : List Name) (r : Reading) (todo left : Todo) (es : List Entry) (more : List Answer) → SerialFrom keys r todo es left
@@ -169,29 +166,26 @@ serial_longer keys r todo left (e ∷ es) more h =
 
 pub answers_are_in : AnswersAreIn
 answers_are_in builtins keys lines answers log h =
-    serial_answers keys (nothing_yet builtins) (record { lines = lines; answers = answers }) (record { lines = []; answers = [] }) log h.steps ∙ append_nil (answers_in log)
+    serial_answers keys (nothing_yet builtins) (record { lines = lines; answers = answers }) (record { lines = []; answers = [] }) log h.steps ∙ append-nil (answers_in log)
 
 -- ---- the runs of programs in it
 
 has_argv : (loaders : List Loader) (key : Name) → list_any (λ (k : Name). bytes_eq k key) (keys_of loaders) ≡ true → (argv : List Name) × (argv_of loaders key ≡ Some argv)
 has_argv [] key h = absurd (false≢true h)
-has_argv (l ∷ loaders) key h = go (bytes_eq l.key key) refl
+has_argv (l ∷ loaders) key h = go (bytes_eq l.key key) refl (λ k. has_argv loaders key k)
   where
-    later : list_any (λ (k : Name). bytes_eq k key) (keys_of loaders) ≡ true → (argv : List Name) × (argv_of loaders key ≡ Some argv)
-    later k = has_argv loaders key k
-
-    go : (b : Bool) → bytes_eq l.key key ≡ b → (argv : List Name) × (argv_of (l ∷ loaders) key ≡ Some argv)
-    go true p = (l.argv, ap (λ (b : Bool). cond b (Some l.argv) (argv_of loaders key)) p)
-    go false p = let rest = later (rw (sym p) h) in (rest.0, ap (λ (b : Bool). cond b (Some l.argv) (argv_of loaders key)) p ∙ rest.1)
+    go : (b : Bool) → bytes_eq l.key key ≡ b → (list_any (λ (k : Name). bytes_eq k key) (keys_of loaders) ≡ true → (argv : List Name) × (argv_of loaders key ≡ Some argv))
+        → (argv : List Name) × (argv_of (l ∷ loaders) key ≡ Some argv)
+    go true p later = (l.argv, ap (λ (b : Bool). cond b (Some l.argv) (argv_of loaders key)) p)
+    go false p later =
+        let rest = later (ap (λ (b : Bool). b || list_any (λ (k : Name). bytes_eq k key) (keys_of loaders)) (sym p) ∙ h) in
+        (rest.0, ap (λ (b : Bool). cond b (Some l.argv) (argv_of loaders key)) p ∙ rest.1)
 
 module _ (loaders : List Loader) where
   -- the loader of a ticket that is to be loaded is there
   loader_there : (r : Reading) (t : ℕ) → to_load (keys_of loaders) r ≡ Some t → (argv : List Name) × (argv_for loaders r t ≡ Some argv)
   loader_there r t load = may (may_load r) refl
     where
-      test : ℕ → Bool
-      test t = is_live r t && from_option false (λ (k : Ticket). list_any (λ (key : Name). bytes_eq key k.key) (keys_of loaders)) (nth r.tickets t)
-
       of_ticket : (o : Option Ticket) → from_option false (λ (k : Ticket). list_any (λ (key : Name). bytes_eq key k.key) (keys_of loaders)) o ≡ true
           → (argv : List Name) × (option_then o (λ (k : Ticket). argv_of loaders k.key) ≡ Some argv)
       of_ticket None h = absurd (false≢true h)
@@ -205,7 +199,7 @@ module _ (loaders : List Loader) where
           (and_parts (is_live r t) (from_option false (λ (k : Ticket). list_any (λ (key : Name). bytes_eq key k.key) (keys_of loaders)) (nth r.tickets t))
           (first_some (λ t. is_live r t && from_option false (λ (k : Ticket). list_any (λ (key : Name). bytes_eq key k.key) (keys_of loaders)) (nth r.tickets t)) (numbers r.tickets) t found).0).1
 
-  runs_are : (programs : Programs) (r : Reading) (todo left : Todo) (es : List Entry) → SerialFrom (keys_of loaders) r todo es left → AreTold programs.answer r es
+  pub runs_are : (programs : Programs) (r : Reading) (todo left : Todo) (es : List Entry) → SerialFrom (keys_of loaders) r todo es left → AreTold programs.answer r es
       → AreRuns loaders r es (runs_of loaders programs r es)
   runs_are programs r todo left [] h told = tt
   runs_are programs r todo left (Loaded t a ∷ es) h told =
@@ -220,18 +214,18 @@ module _ (loaders : List Loader) where
   runs_are programs r todo left (e ∷ es) h told = runs_are programs (after r e) h.0 left es h.2 told.1
 
   -- with no answer in it no program is run
-  no_runs : (r : Reading) (es : List Entry) → answers_in es ≡ [] → AreRuns loaders r es []
+  pub no_runs : (r : Reading) (es : List Entry) → answers_in es ≡ [] → AreRuns loaders r es []
   no_runs r [] h = tt
-  no_runs r (Loaded t a ∷ es) h = absurd (cons≢nil h)
+  no_runs r (Loaded t a ∷ es) h = absurd (cc)
   no_runs r (e ∷ es) h = no_runs (after r e) es h
 
 -- ---- each run has its answer
 
 abbrev pub AllAnswer : List ChildRun → List Answer → Type 0
 AllAnswer [] [] = ⊤
-AllAnswer [] (a ∷ as) = ⊥
+AllAnswer [] (a ∷ given) = ⊥
 AllAnswer (run ∷ runs) [] = ⊥
-AllAnswer (run ∷ runs) (a ∷ as) = IsAnswerOf run.answer a × AllAnswer runs as
+AllAnswer (run ∷ runs) (a ∷ given) = IsAnswerOf run.answer a × AllAnswer runs given
 
 pub runs_answer : (loaders : List Loader) (r : Reading) (es : List Entry) (runs : List ChildRun) → AreRuns loaders r es runs → AllAnswer runs (answers_in es)
 runs_answer loaders r [] [] h = tt
@@ -241,19 +235,19 @@ runs_answer loaders r (Loaded t a ∷ es) (run ∷ runs) h = (h.0.answer, runs_a
 runs_answer loaders r (e ∷ es) runs h = runs_answer loaders (after r e) es runs h
 
 -- so runs that come first have the answers that come first
-pub first_answers : (runs more : List ChildRun) (as bs : List Answer) → AllAnswer runs as → AllAnswer (runs ++ more) bs → (cs : List Answer) × (bs ≡ as ++ cs)
+pub first_answers : (runs more : List ChildRun) (given bs : List Answer) → AllAnswer runs given → AllAnswer (runs ++ more) bs → (cs : List Answer) × (bs ≡ given ++ cs)
 first_answers [] more [] bs h k = (bs, refl)
-first_answers [] more (a ∷ as) bs h k = absurd h
+first_answers [] more (a ∷ given) bs h k = absurd h
 first_answers (run ∷ runs) more [] bs h k = absurd h
-first_answers (run ∷ runs) more (a ∷ as) [] h k = absurd k
-first_answers (run ∷ runs) more (a ∷ as) (b ∷ bs) h k =
-    let rest = first_answers runs more as bs h.1 k.1 in
+first_answers (run ∷ runs) more (a ∷ given) [] h k = absurd k
+first_answers (run ∷ runs) more (a ∷ given) (b ∷ bs) h k =
+    let rest = first_answers runs more given bs h.1 k.1 in
     (rest.0, ap (λ (x : Answer). x ∷ bs) (answer_is_one run.answer b a k.0 h.0) ∙ ap (λ (xs : List Answer). a ∷ xs) rest.1)
 
-pub answers_one : (runs : List ChildRun) (as bs : List Answer) → AllAnswer runs as → AllAnswer runs bs → as ≡ bs
+pub answers_one : (runs : List ChildRun) (given bs : List Answer) → AllAnswer runs given → AllAnswer runs bs → given ≡ bs
 answers_one [] [] [] h k = refl
-answers_one [] (a ∷ as) bs h k = absurd h
+answers_one [] (a ∷ given) bs h k = absurd h
 answers_one [] [] (b ∷ bs) h k = absurd k
 answers_one (run ∷ runs) [] bs h k = absurd h
-answers_one (run ∷ runs) (a ∷ as) [] h k = absurd k
-answers_one (run ∷ runs) (a ∷ as) (b ∷ bs) h k = ap (λ (x : Answer). x ∷ as) (answer_is_one run.answer a b h.0 k.0) ∙ ap (λ (xs : List Answer). b ∷ xs) (answers_one runs as bs h.1 k.1)
+answers_one (run ∷ runs) (a ∷ given) [] h k = absurd k
+answers_one (run ∷ runs) (a ∷ given) (b ∷ bs) h k = ap (λ (x : Answer). x ∷ given) (answer_is_one run.answer a b h.0 k.0) ∙ ap (λ (xs : List Answer). b ∷ xs) (answers_one runs given bs h.1 k.1)

@@ -1,21 +1,16 @@
 -- What a call had reached that stopped is a front of the whole history, and what it wrote a front of the whole printing.
-use Rattle.std.proofs.Common.{ℕ, ◌≡◌, refl, sym, ◌∙◌, ap, subst, List, [], ◌∷◌, ◌++◌, append_assoc, append_nil, map, length, Some, None}
+use Rattle.std.proofs.Common.{ℕ, ◌≡◌, refl, sym, ◌∙◌, ap, subst, List, [], ◌∷◌, ◌++◌, append_assoc, append-nil, map, length, None}
 use Rattle.std.specs.List.{flat_map}
 use Rattle.std.proofs.lemmas.Option.{none-some, some_pair_parts}
-use Rattle.nb_value.specs.declared.value.Value.{Value}
-use Rattle.nb_value.specs.declared.pairs.Field.{Field}
 use Rattle.nb_value.specs.declared.outcome.Answer.{Answer}
-use Rattle.nb_io.specs.declared.spawner.ChildRun.{ChildRun}
 use Rattle.nb_sheet.specs.Lists.{Name}
 use Rattle.nb_history.specs.Reading.{Reading}
 use Rattle.nb_history.specs.Log.{nothing_yet, after, read_from, reading}
 use Rattle.nb_history.specs.Serial.{Todo, first_step, SerialFrom, IsSerial}
-use Rattle.nb_history.specs.Loaders.{Loader, keys_of, answers_in}
-use Rattle.nb_history.specs.Headline.{IsHistoryOf, IsReached}
+use Rattle.nb_history.specs.Loaders.{keys_of, answers_in}
 use Rattle.nb_history.specs.Ends.{HistoryIsOne, ReachedIsLegal, ReachedIsFront, PiecesArePrinting, FrontIsWrittenFirst}
-use Rattle.nb_history.specs.Print.{entry_pieces, table_line, wanted_vars, table_pieces, pieces, table_text, printing}
+use Rattle.nb_history.specs.Print.{entry_pieces, table_line, wanted_vars, table_pieces, table_text, printing}
 use Rattle.nb_log.specs.Printing.{entry_value, line_text, lines_text, entries_text, done_value}
-use Rattle.nb_log.specs.declared.event.Event.{Event}
 use Rattle.nb_log.specs.declared.entry.Entry.{Entry}
 use Rattle.nb_history.proofs.Shapes.{sound_first}
 use Rattle.nb_history.proofs.Serials.{serial_legal, is_serial_one}
@@ -46,14 +41,14 @@ reached_is_front builtins loaders lines runs more log whole h k =
     let todo : Todo = record { lines = lines; answers = answers_in log } in
     let left : Todo = record { lines = h.left; answers = [] } in
     let end : Todo = record { lines = []; answers = [] } in
-    let steps : SerialFrom keys r (behind todo first.0) whole end = subst (λ (as : List Answer). SerialFrom keys r (record { lines = lines; answers = as }) whole end) first.1 k.serial.steps in
+    let steps : SerialFrom keys r (behind todo first.0) whole end = subst (λ (given : List Answer). SerialFrom keys r (record { lines = lines; answers = given }) whole end) first.1 k.serial.steps in
     front_of keys r (behind todo first.0) (behind left first.0) end log whole (serial_longer keys r todo left log first.0 h.steps) steps k.serial.ends
 
 pub history_is_one : HistoryIsOne
 history_is_one builtins loaders lines runs log other h k =
     let same : answers_in log ≡ answers_in other
     = answers_one runs (answers_in log) (answers_in other) (runs_answer loaders (nothing_yet builtins) log runs h.told) (runs_answer loaders (nothing_yet builtins) other runs k.told) in
-    is_serial_one builtins (keys_of loaders) lines (answers_in other) log other (subst (λ (as : List Answer). IsSerial builtins (keys_of loaders) lines as log) same h.serial) k.serial
+    is_serial_one builtins (keys_of loaders) lines (answers_in other) log other (subst (λ (given : List Answer). IsSerial builtins (keys_of loaders) lines given log) same h.serial) k.serial
 
 -- ---- pieces
 
@@ -82,7 +77,8 @@ pieces_are_printing builtins log =
     ∙ ap (λ (x : List ℕ). entries_text log ++ x)
     (whole_append (table_pieces r) (done ∷ [])
     ∙ ap (λ (x : List ℕ). x ++ whole_of (done ∷ [])) (rows_whole r (wanted_vars r))
-    ∙ ap (λ (x : List ℕ). table_text r ++ x) (append_nil done))
+    ∙ ap (λ (x : List ℕ). table_text r ++ x) (append-nil done))
+    ∙ sym (append_assoc (entries_text log) (table_text r) done)
 
 entries_apart : (front back : List Entry) → entry_pieces (front ++ back) ≡ entry_pieces front ++ entry_pieces back
 entries_apart [] back = refl

@@ -1,5 +1,5 @@
 -- The programs that a notebook names for the data that it fetches, and what a run of one answers.
-use Rattle.std.specs.Prelude.{ℕ, ⊤, ◌×◌, ◌≡◌, Bool, false, List, [], ◌∷◌, ◌++◌, map, nat_eq, codes, ℤ, pos, negsuc, Option, None, Some, if◌then◌else◌, Result, MatchBool}
+use Rattle.std.specs.Prelude.{ℕ, ⊤, ◌≡◌, Bool, false, List, [], ◌∷◌, ◌++◌, map, nat_eq, codes, ℤ, pos, negsuc, Option, None, Some, if◌then◌else◌, Result, MatchBool}
 use Rattle.std.specs.declared.result.Result.TheVariants.{Ok, Err}
 use Rattle.std.specs.Str.{bytes_eq}
 use Rattle.std.specs.Fmt.{signed_decimal}

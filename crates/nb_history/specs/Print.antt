@@ -41,4 +41,4 @@ table_pieces r = map (λ (v : ℕ). line_text (table_line r v)) (wanted_vars r)
 
 -- what a sink is given that is written line by line
 abbrev pub pieces : List (Field Value) → List Entry → List (List ℕ)
-pieces builtins log = entry_pieces log ++ table_pieces (reading builtins log) ++ line_text (done_value (length log)) ∷ []
+pieces builtins log = entry_pieces log ++ (table_pieces (reading builtins log) ++ line_text (done_value (length log)) ∷ [])
