@@ -48,6 +48,16 @@ pub fn notebook<S: Source, F: Files, P: Spawner, K: Sink, E: Sink>(
     status
 }
 
+/// The status of a call that had no memory for its words, told on `notes` as `notebook` tells it. It takes no memory.
+pub fn without_words<E: Sink>(notes: &mut E) -> Status
+    ensures status { result ≡ Status.Memory }
+    ensures notes { Notes (note result) (E.written notes.old) (E.written notes.new) (E.faults notes.old) (E.faults notes.new) }
+{
+    let status = Status::Memory;
+    let _ = tell(notes, status);
+    status
+}
+
 #[tactic(auto, using(crate::proofs::OutcomeLemmas::refusals))]
 fn run<S: Source, K: Sink>(alloc: Global, words: &Words, input: &mut S, out: &mut K) -> Status
     ensures { Answers result (record {

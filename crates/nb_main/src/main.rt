@@ -7,8 +7,7 @@ mod history;
 mod status;
 mod words;
 
-use crate::call::notebook;
-use crate::status::Status;
+use crate::call::{notebook, without_words};
 use nb_io::{StdFiles, StdSink, StdSource, StdSpawner};
 use nb_value::{Text, Words};
 use std::alloc::AllocError;
@@ -33,7 +32,7 @@ fn main(rt: HostRuntime) -> ExitCode {
             &mut out,
             &mut notes,
         ),
-        Err(AllocError) => Status::Memory,
+        Err(AllocError) => without_words(&mut notes),
     };
     ExitCode::from(status.number())
 }
