@@ -1,6 +1,11 @@
-ghost use Rattle.std.specs.Prelude.{◌≡◌, ◌≤◌, ◌∷◌, ◌++◌, [], length, slice_get, Some, IfOk, IfSome, IsErrOf};
+ghost use Rattle.std.specs.Prelude.{◌≡◌, ◌≤◌, ◌<◌, ◌∷◌, ◌++◌, [], length, drop, slice_get, Some, IfOk, IsTrue};
 ghost use Rattle.std.specs.Option.{option_copied};
+ghost use Rattle.nb_io.specs.declared.spawner.SpawnFail.TheVariants.{Failed};
+ghost use Rattle.nb_io.specs.Calls.{Fails, counted, uncalled};
+ghost use Rattle.nb_io.specs.Causes.{HasCauseAt};
+ghost use Rattle.nb_io.specs.Runs.{AddsAnswer, AnswersRun, rest_after};
 
+use crate::calls::Calls;
 use crate::{ChildEnd, ChildRun, SpawnFail, Spawner};
 use nb_value::{Argv, Numbers};
 use std::alloc::{AllocError, Global};
@@ -45,18 +50,30 @@ fn copy_of(alloc: Global, end: &ChildEnd) -> Result<ChildEnd, AllocError>
     })
 }
 
-/// Programs that end as a list says, whatever their words; it tells its runs. `failing` has the numbers of the calls that
-/// fail, counted from 1. A call that fails uses up no end, and a call after the last end fails too. It keeps all runs in
-/// memory, with a copy of each output.
+fn copy_of_answer(
+    alloc: Global,
+    answer: &Result<ChildEnd, SpawnFail>,
+) -> Result<Result<ChildEnd, SpawnFail>, AllocError>
+    ensures { IfOk result (λ copy. copy ≡ answer.now) }
+{
+    match answer {
+        Ok(end) => Ok(Ok(copy_of(alloc, end)?)),
+        Err(fail) => Ok(Err(*fail)),
+    }
+}
+
+/// Programs that end as a list says, one run after another, whatever their words; it tells its runs. `failing` has the
+/// numbers of the calls that fail, counted from 1. A call that fails uses up no end, nor does one without memory, and a
+/// call after the last end fails too. It keeps all runs in memory, with a copy of each output.
 #[derive(Drop)]
 pub struct MemSpawner {
     alloc: Global,
     answers: ChildEnds,
-    failing: Numbers,
-    calls: u64,
     given: usize,
+    calls: Calls,
     faults: u64,
     past: Vec<ChildRun>,
+    ghost within: { given ≤ length answers },
 }
 
 impl MemSpawner {
@@ -64,37 +81,31 @@ impl MemSpawner {
     pub fn new(alloc: Global, answers: ChildEnds, failing: Numbers) -> MemSpawner
         ensures runs { ⟦<MemSpawner as Spawner>⟧.runs result ≡ Some [] }
         ensures faults { ⟦<MemSpawner as Spawner>⟧.faults result ≡ 0 }
+        ensures left { drop result.given result.answers ≡ answers }
+        ensures calls { result.calls ≡ uncalled failing }
     {
         MemSpawner {
             alloc,
             answers,
-            failing,
-            calls: 0,
             given: 0,
+            calls: Calls::new(failing),
             faults: 0,
             past: Vec::new(alloc),
         }
     }
 
-    // The answer to this call, in two copies.
-    fn answers_to_call(&self, limit: usize) -> Result<Option<(ChildEnd, ChildEnd)>, SpawnFail>
-        ensures same { IfOk result (λ two. IfSome two (λ pair. pair.0 ≡ pair.1)) }
-        ensures within { IfOk result (λ two. IfSome two (λ pair. length pair.0.output ≤ limit)) }
-        ensures not_failed { IsErrOf result SpawnFail.Failed → ⊥ }
+    // How a call is answered, by the first end that is left.
+    fn answer(&self, fails: bool, limit: usize) -> Result<Result<ChildEnd, SpawnFail>, AllocError>
+        ensures { IfOk result (AnswersRun (IsTrue fails) limit (drop self.now.given self.now.answers)) }
     {
-        if self.failing.contains(self.calls) {
-            return Ok(None);
-        }
         match self.answers.get(self.given) {
-            None => Ok(None),
-            Some(end) => {
+            Some(end) if !fails => {
                 if end.output.len() > limit {
-                    return Err(SpawnFail::TooLong);
+                    return Ok(Err(SpawnFail::TooLong));
                 }
-                let first = copy_of(self.alloc, end).map_err(SpawnFail::from)?;
-                let second = copy_of(self.alloc, end).map_err(SpawnFail::from)?;
-                Ok(Some((first, second)))
+                Ok(Ok(copy_of(self.alloc, end)?))
             }
+            _ => Ok(Err(SpawnFail::Failed)),
         }
     }
 }
@@ -104,38 +115,27 @@ impl Spawner for MemSpawner {
 
     ghost faults = { λ p. p.faults };
 
-    fn run(&mut self, argv: &Argv, limit: usize) -> Result<ChildEnd, SpawnFail> {
-        self.calls = self.calls.saturating_add(1);
+    fn run(&mut self, argv: &Argv, limit: usize) -> Result<ChildEnd, SpawnFail>
+        ensures within { IfOk result (λ end. length end.output ≤ limit) }
+        ensures adds { AddsAnswer (Some self.old.past.items) (Some self.new.past.items) argv.now limit result }
+        ensures cause { HasCauseAt Failed self.old.faults self.new.faults result }
+        ensures calls { self.new.calls ≡ counted self.old.calls }
+        ensures answers { AnswersRun (Fails self.old.calls) limit (drop self.old.given self.old.answers) result }
+        ensures left { drop self.new.given self.new.answers ≡ rest_after result (drop self.old.given self.old.answers) }
+    {
+        let fails = self.calls.count();
+        let given = self.answer(fails, limit)?;
+        let answer = copy_of_answer(self.alloc, &given)?;
         let argv = argv.copy(self.alloc)?;
-        match self.answers_to_call(limit) {
-            Ok(Some((given, kept))) => {
-                self.given = self.given.saturating_add(1);
-                self.past.push(ChildRun {
-                    argv,
-                    limit,
-                    answer: Ok(kept),
-                })?;
-                Ok(given)
-            }
-            Ok(None) => {
-                self.past.push(ChildRun {
-                    argv,
-                    limit,
-                    answer: Err(SpawnFail::Failed),
-                })?;
-                self.faults = self.faults.saturating_add(1);
-                Err(SpawnFail::Failed)
-            }
-            Err(SpawnFail::TooLong) => {
-                self.given = self.given.saturating_add(1);
-                self.past.push(ChildRun {
-                    argv,
-                    limit,
-                    answer: Err(SpawnFail::TooLong),
-                })?;
-                Err(SpawnFail::TooLong)
-            }
-            Err(_) => Err(SpawnFail::Memory),
+        self.past.push(ChildRun {
+            argv,
+            limit,
+            answer,
+        })?;
+        match given {
+            Err(SpawnFail::Failed) => self.faults = self.faults.saturating_add(1),
+            _ => self.given += 1,
         }
+        given
     }
 }
