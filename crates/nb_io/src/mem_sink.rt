@@ -47,6 +47,7 @@ impl Sink for MemSink {
 
     // Want of memory is a fault of this sink.
     fn write(&mut self, bytes: &[u8]) -> Result<usize, Failed>
+        requires { 0 < length bytes.now }
         ensures some { IfOk result (λ n. 0 < n) }
         ensures bound { WritesAtMost result bytes.now }
         ensures bytes { WriteAppends (Some self.old.written) (Some self.new.written) result bytes.now }

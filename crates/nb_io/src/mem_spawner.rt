@@ -1,9 +1,10 @@
-ghost use Rattle.std.specs.Prelude.{◌≡◌, ◌≤◌, ◌<◌, ◌∷◌, ◌++◌, [], length, drop, slice_get, Some, IfOk, IsTrue};
+ghost use Rattle.std.specs.Prelude.{◌≡◌, ◌≤◌, ◌<◌, ◌^◌, ◌∷◌, ◌++◌, [], length, drop, slice_get, List, Some, IfOk, IsTrue};
 ghost use Rattle.std.specs.Option.{option_copied};
+ghost use Rattle.nb_io.specs.declared.spawner.ChildEnd.{ChildEnd};
 ghost use Rattle.nb_io.specs.declared.spawner.SpawnFail.TheVariants.{Failed};
 ghost use Rattle.nb_io.specs.Calls.{Fails, counted, uncalled};
 ghost use Rattle.nb_io.specs.Causes.{HasCauseAt};
-ghost use Rattle.nb_io.specs.Runs.{AddsAnswer, AnswersRun, rest_after};
+ghost use Rattle.nb_io.specs.Runs.{AddsAnswer, AnswersRun, ends_taken};
 
 use crate::calls::Calls;
 use crate::{ChildEnd, ChildRun, SpawnFail, Spawner};
@@ -35,7 +36,8 @@ impl ChildEnds {
     }
 
     fn get(&self, i: usize) -> Option<&ChildEnd>
-        ensures { option_copied result ≡ slice_get self.now i }
+        ensures value { option_copied result ≡ slice_get self.now i }
+        ensures small { length self.now < 2 ^ 63 }
     {
         self.items.get(i)
     }
@@ -59,6 +61,34 @@ fn copy_of_answer(
     match answer {
         Ok(end) => Ok(Ok(copy_of(alloc, end)?)),
         Err(fail) => Ok(Err(*fail)),
+    }
+}
+
+// The answer to a run that ends so, unless it is to fail.
+fn answer_of(
+    alloc: Global,
+    fails: bool,
+    limit: usize,
+    end: &ChildEnd,
+) -> Result<Result<ChildEnd, SpawnFail>, AllocError>
+    ensures { (rest : List ChildEnd) → IfOk result (AnswersRun (IsTrue fails) limit (end.now ∷ rest)) }
+{
+    if fails {
+        return Ok(Err(SpawnFail::Failed));
+    }
+    if end.output.len() > limit {
+        return Ok(Err(SpawnFail::TooLong));
+    }
+    Ok(Ok(copy_of(alloc, end)?))
+}
+
+// How many of the ends to come an answer uses up.
+fn uses_up(answer: &Result<ChildEnd, SpawnFail>) -> usize
+    ensures { result ≡ ends_taken answer.now }
+{
+    match answer {
+        Ok(_) | Err(SpawnFail::TooLong) => 1,
+        Err(_) => 0,
     }
 }
 
@@ -96,16 +126,13 @@ impl MemSpawner {
 
     // How a call is answered, by the first end that is left.
     fn answer(&self, fails: bool, limit: usize) -> Result<Result<ChildEnd, SpawnFail>, AllocError>
-        ensures { IfOk result (AnswersRun (IsTrue fails) limit (drop self.now.given self.now.answers)) }
+        ensures answers { IfOk result (AnswersRun (IsTrue fails) limit (drop self.now.given self.now.answers)) }
+        ensures within { self.now.given ≤ length self.now.answers }
+        ensures small { length self.now.answers < 2 ^ 63 }
     {
         match self.answers.get(self.given) {
-            Some(end) if !fails => {
-                if end.output.len() > limit {
-                    return Ok(Err(SpawnFail::TooLong));
-                }
-                Ok(Ok(copy_of(self.alloc, end)?))
-            }
-            _ => Ok(Err(SpawnFail::Failed)),
+            None => Ok(Err(SpawnFail::Failed)),
+            Some(end) => answer_of(self.alloc, fails, limit, end),
         }
     }
 }
@@ -121,7 +148,7 @@ impl Spawner for MemSpawner {
         ensures cause { HasCauseAt Failed self.old.faults self.new.faults result }
         ensures calls { self.new.calls ≡ counted self.old.calls }
         ensures answers { AnswersRun (Fails self.old.calls) limit (drop self.old.given self.old.answers) result }
-        ensures left { drop self.new.given self.new.answers ≡ rest_after result (drop self.old.given self.old.answers) }
+        ensures left { drop self.new.given self.new.answers ≡ drop (ends_taken result) (drop self.old.given self.old.answers) }
     {
         let fails = self.calls.count();
         let given = self.answer(fails, limit)?;
@@ -132,10 +159,10 @@ impl Spawner for MemSpawner {
             limit,
             answer,
         })?;
-        match given {
-            Err(SpawnFail::Failed) => self.faults = self.faults.saturating_add(1),
-            _ => self.given += 1,
+        if let Err(SpawnFail::Failed) = given {
+            self.faults = self.faults.saturating_add(1);
         }
+        self.given += uses_up(&given);
         given
     }
 }
