@@ -18,16 +18,16 @@ pub enum FileFail {
 
 /// Files that are read by name.
 pub trait Files {
-    /// The bytes of each name, where the object tells them.
-    ghost bytes_of: { Self → List ℕ → Option (List ℕ) };
+    /// What has each name, where the object tells it: a file of these bytes, or no file.
+    ghost file_of: { Self → List ℕ → Option (Option (List ℕ)) };
 
     /// How often the object has failed, up to the greatest `u64`. It never falls.
     ghost faults: { Self → ℕ };
 
-    /// All bytes of a file, if they are at most `limit`. No file is changed. It takes memory linear in the bytes that
-    /// it gives.
+    /// All bytes of a file, if they are at most `limit`. A name without a file is answered `Failed`. No file is changed.
+    /// It takes memory linear in the bytes that it gives.
     fn read_file(&mut self, name: &str, limit: usize) -> Result<Bytes, FileFail>
-        ensures bytes { ReadsFile (bytes_of self.old name.now) limit result }
-        ensures stays { (n : List ℕ) → bytes_of self.new n ≡ bytes_of self.old n }
+        ensures bytes { ReadsFile (file_of self.old name.now) limit result }
+        ensures stays { (n : List ℕ) → file_of self.new n ≡ file_of self.old n }
         ensures cause { HasCauseAt Failed (faults self.old) (faults self.new) result };
 }

@@ -1,7 +1,11 @@
-ghost use Rattle.std.specs.Prelude.{◌≡◌, List, ℕ};
-ghost use Rattle.nb_io.specs.Named.{bytes_under};
+ghost use Rattle.std.specs.Prelude.{◌≡◌, ◌⊎◌, List, ℕ, Some, IsErrOf};
 ghost use Rattle.std.specs.Option.{option_copied};
+ghost use Rattle.nb_io.specs.declared.files.FileFail.TheVariants.{Failed};
+ghost use Rattle.nb_io.specs.Calls.{Fails, counted, uncalled};
+ghost use Rattle.nb_io.specs.Causes.{HasCauseAt};
+ghost use Rattle.nb_io.specs.Named.{ReadsFile, TellsNoFile, bytes_under};
 
+use crate::calls::Calls;
 use crate::{FileFail, Files};
 use nb_value::{Bytes, Numbers, Text};
 use std::alloc::Global;
@@ -47,35 +51,40 @@ impl NamedFiles {
 pub struct MemFiles {
     alloc: Global,
     named: NamedFiles,
-    failing: Numbers,
-    calls: u64,
+    calls: Calls,
     faults: u64,
 }
 
 impl MemFiles {
     /// These files. Its calls take their memory from `alloc`.
     pub fn new(alloc: Global, named: NamedFiles, failing: Numbers) -> MemFiles
-        ensures files { (name : List ℕ) → ⟦<MemFiles as Files>⟧.bytes_of result name ≡ bytes_under named name }
+        ensures files { (name : List ℕ) → ⟦<MemFiles as Files>⟧.file_of result name ≡ Some (bytes_under named name) }
         ensures faults { ⟦<MemFiles as Files>⟧.faults result ≡ 0 }
+        ensures calls { result.calls ≡ uncalled failing }
     {
         MemFiles {
             alloc,
             named,
-            failing,
-            calls: 0,
+            calls: Calls::new(failing),
             faults: 0,
         }
     }
 }
 
 impl Files for MemFiles {
-    ghost bytes_of = { λ f. bytes_under f.named };
+    ghost file_of = { λ f name. Some (bytes_under f.named name) };
 
     ghost faults = { λ f. f.faults };
 
-    fn read_file(&mut self, name: &str, limit: usize) -> Result<Bytes, FileFail> {
-        self.calls = self.calls.saturating_add(1);
-        let fails = self.failing.contains(self.calls);
+    fn read_file(&mut self, name: &str, limit: usize) -> Result<Bytes, FileFail>
+        ensures bytes { ReadsFile (Some (bytes_under self.old.named name.now)) limit result }
+        ensures stays { (n : List ℕ) → Some (bytes_under self.new.named n) ≡ Some (bytes_under self.old.named n) }
+        ensures cause { HasCauseAt Failed self.old.faults self.new.faults result }
+        ensures calls { self.new.calls ≡ counted self.old.calls }
+        ensures fails { Fails self.old.calls → IsErrOf result Failed }
+        ensures only { IsErrOf result Failed → Fails self.old.calls ⊎ TellsNoFile (Some (bytes_under self.old.named name.now)) }
+    {
+        let fails = self.calls.count();
         match self.named.find(name) {
             Some(bytes) if !fails => {
                 if bytes.len() > limit {

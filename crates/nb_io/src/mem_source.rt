@@ -1,5 +1,10 @@
-ghost use Rattle.std.specs.Prelude.{◌≡◌, ◌<◌, ◌≤◌, length, drop, Some};
+ghost use Rattle.std.specs.Prelude.{◌≡◌, ◌<◌, ◌≤◌, ◌↔◌, length, drop, min, Some, IfOk, IsErr};
+ghost use Rattle.std.specs.Io.{ReadsAtMost};
+ghost use Rattle.std.specs.Io.KnownBytes.{ReadConsumes};
+ghost use Rattle.nb_io.specs.Calls.{Fails, counted, uncalled};
+ghost use Rattle.nb_io.specs.Causes.{HasCause};
 
+use crate::calls::Calls;
 use crate::{Failed, Source};
 use nb_value::{Bytes, Numbers};
 
@@ -9,9 +14,8 @@ use nb_value::{Bytes, Numbers};
 pub struct MemSource {
     content: Bytes,
     piece: usize,
-    failing: Numbers,
     at: usize,
-    calls: u64,
+    calls: Calls,
     faults: u64,
     ghost some: { 0 < piece },
     ghost within: { at ≤ length content },
@@ -23,13 +27,14 @@ impl MemSource {
         requires { 0 < piece }
         ensures left { ⟦<MemSource as Source>⟧.left result ≡ Some content }
         ensures faults { ⟦<MemSource as Source>⟧.faults result ≡ 0 }
+        ensures piece { result.piece ≡ piece }
+        ensures calls { result.calls ≡ uncalled failing }
     {
         MemSource {
             content,
             piece,
-            failing,
             at: 0,
-            calls: 0,
+            calls: Calls::new(failing),
             faults: 0,
         }
     }
@@ -40,9 +45,16 @@ impl Source for MemSource {
 
     ghost faults = { λ s. s.faults };
 
-    fn read(&mut self, buf: &mut [u8]) -> Result<usize, Failed> {
-        self.calls = self.calls.saturating_add(1);
-        if self.failing.contains(self.calls) {
+    fn read(&mut self, buf: &mut [u8]) -> Result<usize, Failed>
+        ensures bound { ReadsAtMost result buf.new }
+        ensures bytes { ReadConsumes (Some (drop self.old.at self.old.content)) (Some (drop self.new.at self.new.content)) result buf.new }
+        ensures cause { HasCause self.old.faults self.new.faults result }
+        ensures count { IfOk result (λ n. n ≡ min (min (length (drop self.old.at self.old.content)) self.old.piece) (length buf.new)) }
+        ensures piece { self.new.piece ≡ self.old.piece }
+        ensures calls { self.new.calls ≡ counted self.old.calls }
+        ensures fails { IsErr result ↔ Fails self.old.calls }
+    {
+        if self.calls.count() {
             self.faults = self.faults.saturating_add(1);
             return Err(Failed);
         }

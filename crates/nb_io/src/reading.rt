@@ -5,15 +5,19 @@ ghost use Rattle.nb_io.specs.Streams.{ReadsAll};
 use crate::{Failed, Source};
 use nb_value::Bytes;
 use std::alloc::{AllocError, Global};
+use thiserror::Error;
 
 /// Why a source was not read to its end.
-#[derive(Clone, Copy, Debug, PartialEq, Eq)]
+#[derive(Clone, Copy, Debug, Drop, PartialEq, Eq, Error)]
 pub enum ReadFail {
     /// The source failed. Its count of faults has risen.
+    #[error("the source failed")]
     Fault,
     /// More bytes came than this limit.
+    #[error("more than {0} bytes")]
     TooLong(usize),
     /// There was no memory.
+    #[error("out of memory")]
     Memory,
 }
 

@@ -19,7 +19,7 @@ impl StdFiles {
 }
 
 impl Files for StdFiles {
-    ghost bytes_of = { λ _ _. None };
+    ghost file_of = { λ _ _. None };
 
     ghost faults = { λ f. f.faults };
 
