@@ -75,5 +75,7 @@ record_json f fs =
     ∙ ap (λ (rest : List ℕ). 123 ∷ rest) (one_field f (fields_after fs ++ 125 ∷ []))
 
 pub ruleset pieces = (text_printed, number_json, true_json, false_json, null_json, empty_json, list_json, append_assoc, append-nil)
+
 pub ruleset lines = (list_line, append_assoc, append-nil)
+
 pub ruleset records = (record_json, append_assoc, append-nil)

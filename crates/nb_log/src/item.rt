@@ -70,12 +70,7 @@ pub(crate) fn push_named(
 }
 
 #[tactic(auto, using(crate::proofs::PieceLemmas::lines))]
-fn push_texts(
-    alloc: Global,
-    out: &mut Bytes,
-    first: &str,
-    second: &str,
-) -> Result<(), AllocError>
+fn push_texts(alloc: Global, out: &mut Bytes, first: &str, second: &str) -> Result<(), AllocError>
     ensures { OnOk result (out.new ≡ out.old ++ items_after (V.Text first.now ∷ V.Text second.now ∷ [])) }
 {
     push_text_item(alloc, out, first)?;
@@ -84,7 +79,11 @@ fn push_texts(
 
 /// Adds an error: its kind, its detail, and the name of the input that it came by, or null.
 #[tactic(auto, using(crate::proofs::PieceLemmas::lines))]
-pub(crate) fn push_error(alloc: Global, out: &mut Bytes, error: &CellError) -> Result<(), AllocError>
+pub(crate) fn push_error(
+    alloc: Global,
+    out: &mut Bytes,
+    error: &CellError,
+) -> Result<(), AllocError>
     ensures { OnOk result (out.new ≡ out.old ++ items_after (error_items error.now)) }
 {
     push_texts(alloc, out, kind_name(error.kind), error.detail.as_str())?;

@@ -73,12 +73,7 @@ pub(crate) fn push_numbered(
 }
 
 #[tactic(auto, using(crate::proofs::PieceLemmas::lines))]
-fn push_edited(
-    alloc: Global,
-    out: &mut Bytes,
-    editor: u8,
-    edit: &Edit,
-) -> Result<(), AllocError>
+fn push_edited(alloc: Global, out: &mut Bytes, editor: u8, edit: &Edit) -> Result<(), AllocError>
     ensures { OnOk result (out.new ≡ out.old ++ line_text (entry_value (Entry.Edit editor edit.now))) }
 {
     open(alloc, out, "edit", editor as u64)?;

@@ -66,12 +66,7 @@ fn push_bare(alloc: Global, out: &mut Bytes, action: &str) -> Result<(), AllocEr
 }
 
 #[tactic(auto, using(crate::proofs::PieceLemmas::records))]
-fn push_added(
-    alloc: Global,
-    out: &mut Bytes,
-    within: u32,
-    observed: bool,
-) -> Result<(), AllocError>
+fn push_added(alloc: Global, out: &mut Bytes, within: u32, observed: bool) -> Result<(), AllocError>
     ensures { OnOk result (out.new ≡ out.old ++ json_text (edit_object (Edit.AddVariable within observed))) }
 {
     open(alloc, out, "do", "variable")?;

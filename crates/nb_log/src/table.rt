@@ -39,11 +39,7 @@ pub fn push_done_line(alloc: Global, out: &mut Bytes, entries: u64) -> Result<()
 }
 
 // What a variable shows, or that it waits.
-fn push_outcome(
-    alloc: Global,
-    out: &mut Bytes,
-    shown: Option<&Outcome>,
-) -> Result<(), AllocError>
+fn push_outcome(alloc: Global, out: &mut Bytes, shown: Option<&Outcome>) -> Result<(), AllocError>
     ensures { OnOk result (out.new ≡ out.old ++ items_after (outcome_items (option_copied shown.entry))) }
 {
     match shown {
