@@ -18,10 +18,10 @@ open_array v vs = 91 ∷ (json_text v ++ items_after vs)
 abbrev pub field_text : Field Value → List ℕ
 field_text f = json_text (V.Text f.name) ++ 58 ∷ json_text f.value
 
--- each field behind a comma
-abbrev pub fields_after : List (Field Value) → List ℕ
-fields_after [] = []
-fields_after (f ∷ fs) = 44 ∷ (field_text f ++ fields_after fs)
+-- each field behind a comma, and the end of the object
+abbrev pub closed_fields : List (Field Value) → List ℕ
+closed_fields [] = 125 ∷ []
+closed_fields (f ∷ fs) = 44 ∷ (field_text f ++ closed_fields fs)
 
 -- the ends of an array that is a line
 abbrev pub line_end : List ℕ

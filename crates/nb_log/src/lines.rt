@@ -156,7 +156,6 @@ fn push_disposed(
     out.append(b"]\n")
 }
 
-#[tactic(auto, using(crate::proofs::PieceLemmas::lines))]
 fn push_fulfilled(alloc: Global, out: &mut Bytes, var: u32, value: &Value) -> Result<(), AllocError>
     ensures { OnOk result (out.new ≡ out.old ++ line_text (entry_value (Entry.Fulfilled var value.now))) }
 {

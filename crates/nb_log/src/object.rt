@@ -65,7 +65,6 @@ fn push_bare(alloc: Global, out: &mut Bytes, action: &str) -> Result<(), AllocEr
     out.append(b"}")
 }
 
-#[tactic(auto, using(crate::proofs::PieceLemmas::records))]
 fn push_added(alloc: Global, out: &mut Bytes, within: u32, observed: bool) -> Result<(), AllocError>
     ensures { OnOk result (out.new ≡ out.old ++ json_text (edit_object (Edit.AddVariable within observed))) }
 {
@@ -75,7 +74,6 @@ fn push_added(alloc: Global, out: &mut Bytes, within: u32, observed: bool) -> Re
     out.append(b"}")
 }
 
-#[tactic(auto, using(crate::proofs::PieceLemmas::records))]
 fn push_added_cell(
     alloc: Global,
     out: &mut Bytes,
@@ -93,7 +91,6 @@ fn push_added_cell(
 }
 
 // A cell, an action and a number.
-#[tactic(auto, using(crate::proofs::PieceLemmas::records))]
 fn push_cell_at(
     alloc: Global,
     out: &mut Bytes,
@@ -111,7 +108,6 @@ fn push_cell_at(
     out.append(b"}")
 }
 
-#[tactic(auto, using(crate::proofs::PieceLemmas::records))]
 fn push_import(
     alloc: Global,
     out: &mut Bytes,
@@ -130,7 +126,6 @@ fn push_import(
     out.append(b"}")
 }
 
-#[tactic(auto, using(crate::proofs::PieceLemmas::records))]
 fn push_delete(alloc: Global, out: &mut Bytes, variable: u32) -> Result<(), AllocError>
     ensures { OnOk result (out.new ≡ out.old ++ json_text (edit_object (Edit.Delete variable))) }
 {

@@ -8,7 +8,7 @@ ghost use Rattle.nb_log.specs.Pieces.{items_after};
 use crate::item::{open, push_error, push_named, push_text_item};
 use crate::lines::push_numbered;
 use crate::piece::push_name;
-use nb_value::{Bytes, CellError, Outcome, Text};
+use nb_value::{Bytes, CellError, Outcome, Text, Value};
 use std::alloc::{AllocError, Global};
 
 /// Adds the line of the table on a variable, with its name and what it shows. It fails only without memory, and may then
@@ -44,7 +44,7 @@ fn push_outcome(alloc: Global, out: &mut Bytes, shown: Option<&Outcome>) -> Resu
 {
     match shown {
         None => push_waiting(alloc, out),
-        Some(Outcome::Value(value)) => push_named(alloc, out, "fulfilled", value),
+        Some(Outcome::Value(value)) => push_given(alloc, out, value),
         Some(Outcome::Error(error)) => push_failed(alloc, out, error),
     }
 }
@@ -54,6 +54,12 @@ fn push_waiting(alloc: Global, out: &mut Bytes) -> Result<(), AllocError>
     ensures { OnOk result (out.new ≡ out.old ++ items_after (outcome_items None)) }
 {
     push_text_item(alloc, out, "waiting")
+}
+
+fn push_given(alloc: Global, out: &mut Bytes, value: &Value) -> Result<(), AllocError>
+    ensures { OnOk result (out.new ≡ out.old ++ items_after (outcome_items (Some (Outcome.Value value.now)))) }
+{
+    push_named(alloc, out, "fulfilled", value)
 }
 
 #[tactic(auto, using(crate::proofs::PieceLemmas::lines))]
