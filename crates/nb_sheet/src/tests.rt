@@ -86,28 +86,67 @@ const IMPORTS_AND_DELETES: &[Step] = &[
     },
 ];
 
-// A step that is refused.
-const fn against(act: Act, reason: u32) -> Step {
-    Step {
-        act,
-        reason,
-        ..DONE
-    }
-}
-
 const REASONS_IN_ORDER: &[Step] = &[
-    against(Act::Cell(0, "x"), 0),
-    against(Act::Cell(1, "x"), 1),
-    against(Act::Variable(1), 1),
-    against(Act::Define(0, "x"), 2),
-    against(Act::Define(2, "x"), 2),
-    against(Act::Import(2, 1), 1),
-    against(Act::Import(2, 0), 2),
-    against(Act::Delete(2), 2),
-    against(Act::Redefine(1, "y"), 1),
-    against(Act::Redefine(0, "y"), 5),
-    against(Act::Redefine(0, ""), 5),
-    against(Act::Cell(0, "x"), 0),
+    Step {
+        act: Act::Cell(0, "x"),
+        reason: 0,
+        ..DONE
+    },
+    Step {
+        act: Act::Cell(1, "x"),
+        reason: 1,
+        ..DONE
+    },
+    Step {
+        act: Act::Variable(1),
+        reason: 1,
+        ..DONE
+    },
+    Step {
+        act: Act::Define(0, "x"),
+        reason: 2,
+        ..DONE
+    },
+    Step {
+        act: Act::Define(2, "x"),
+        reason: 2,
+        ..DONE
+    },
+    Step {
+        act: Act::Import(2, 1),
+        reason: 1,
+        ..DONE
+    },
+    Step {
+        act: Act::Import(2, 0),
+        reason: 2,
+        ..DONE
+    },
+    Step {
+        act: Act::Delete(2),
+        reason: 2,
+        ..DONE
+    },
+    Step {
+        act: Act::Redefine(1, "y"),
+        reason: 1,
+        ..DONE
+    },
+    Step {
+        act: Act::Redefine(0, "y"),
+        reason: 5,
+        ..DONE
+    },
+    Step {
+        act: Act::Redefine(0, ""),
+        reason: 5,
+        ..DONE
+    },
+    Step {
+        act: Act::Cell(0, "x"),
+        reason: 0,
+        ..DONE
+    },
     Step {
         act: Act::Redefine(0, "x"),
         reason: 6,
@@ -118,14 +157,26 @@ const REASONS_IN_ORDER: &[Step] = &[
 
 const LIMITS: &[Step] = &[
     Step { times: 63, ..DONE },
-    against(Act::Module, 3),
+    Step {
+        act: Act::Module,
+        reason: 3,
+        ..DONE
+    },
     Step {
         act: Act::Variable(63),
         times: 1024,
         ..DONE
     },
-    against(Act::Variable(63), 4),
-    against(Act::Variable(64), 1),
+    Step {
+        act: Act::Variable(63),
+        reason: 4,
+        ..DONE
+    },
+    Step {
+        act: Act::Variable(64),
+        reason: 1,
+        ..DONE
+    },
 ];
 
 // The cell `name = 1`, or `1` for no name.
