@@ -11,7 +11,8 @@ use Rattle.nb_lines.specs.declared.script.BadReason.TheVariants.{LineTooLong, To
 use Rattle.nb_syntax.specs.declared.tree.Cell.{Cell}
 use Rattle.nb_sheet.specs.declared.edit.Edit.TheVariants.{AddCell}
 use Rattle.nb_log.specs.declared.event.Event.TheVariants as event
-use Rattle.std.proofs.lemmas.Option.{same_Some}
+use Rattle.std.proofs.lemmas.Option.{none-some, same_Some}
+use Rattle.std.proofs.Math.Nat.{lt_of_not-le}
 use Rattle.serde_json.specs.Data.{Data}
 use Rattle.nb_syntax.specs.Plain.{is_plain}
 use Rattle.nb_parser.specs.Text.{cell_of}
@@ -77,6 +78,12 @@ too_many_lines n line far =
     let outside : (nat_le n 65536 && nat_le (length line) 65536) ≡ false = rw (lt-leb n 65536 far) refl in
     let bad : is_bad (n, line) ≡ true = first (is_within (n, line)) (not (is_some (line_event line))) outside in
     bad_alone n line bad (passed_not (is_blank line) (is_within (n, line)) outside) ∙ ap (λ (x : LineFail). Some x) (rw (lt-ltb 65536 n far) refl)
+
+-- a line that is not refused has no more lines before it than the most
+pub few_lines : (n : ℕ) (line : List ℕ) → fault_among (told n (line ∷ [])) ≡ None → n ≤ 65536
+few_lines n line none =
+    let fewer : n < 65537 = lt_of_not-le {n = 65537} {m = n} (λ far. none-some (Bad n TooManyLines) (sym none ∙ too_many_lines n line (omega (arith, far)))) in
+    omega (arith, fewer)
 
 pub line_too_long : (n : ℕ) (line : List ℕ) → n ≤ 65536 → 65536 < length line → fault_among (told n (line ∷ [])) ≡ Some (Bad n LineTooLong)
 unfolding is_within is_bad fault_of

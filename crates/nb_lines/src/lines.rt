@@ -17,7 +17,6 @@ const LONGEST_LINE: usize = 65_536;
 ///
 /// A blank line is passed over and counted. Linear in the input; a fault is answered without reading on.
 pub fn read_lines(alloc: Global, bytes: &[u8]) -> Result<Scripts, LineFail>
-    requires { length bytes.now ≤ 4194304 }
     ensures lines { ReadsLines bytes.now result }
     ensures cells { IfOk result AllAddCells }
 {
@@ -35,7 +34,6 @@ fn without_last_feed(bytes: &[u8]) -> &[u8]
 }
 
 fn read_all(alloc: Global, bytes: &[u8]) -> Result<Scripts, LineFail>
-    requires { length bytes.now ≤ 4194304 }
     ensures { Reads (fault_among (told 1 (lines bytes.now))) (scripts_before (told 1 (lines bytes.now))) result }
 {
     let mut found = Items::new(alloc);

@@ -1,17 +1,20 @@
--- The fields of a settlement, put in one after another.
-use Rattle.std.proofs.Common.{◌≡◌, [], ◌∷◌, codes, refl}
+-- The fields of a settlement: which fetch it answers, and what it says.
+use Rattle.std.proofs.Common.{◌≡◌, ℕ, List, [], ◌∷◌, codes, refl, append_assoc, append-nil}
+use Rattle.nb_value.specs.declared.value.Value.{Value}
 use Rattle.nb_value.specs.declared.value.Value.TheVariants as V
-use Rattle.nb_value.specs.declared.outcome.Answer.{Answer}
 use Rattle.nb_value.specs.declared.outcome.Answer.TheVariants.{Value as Given, Failure}
-use Rattle.nb_value.specs.Fields.{put}
 use Rattle.nb_log.specs.declared.event.Target.{Target}
 use Rattle.nb_log.specs.declared.event.Target.TheVariants.{Ticket, Key}
-use Rattle.nb_log.specs.Printing.{field, answer_field, settle_fields}
+use Rattle.nb_log.specs.Printing.{field, settle_fields}
 use Rattle.nb_log.specs.Objects.{target_field}
+use Rattle.nb_log.proofs.PieceLemmas.{record_json}
 
-pub settle_put : (target : Target) (answer : Answer) →
-    put (answer_field answer) (put (target_field target) (field (codes "do") (V.Text (codes "settle")) ∷ [])) ≡ settle_fields target answer
-settle_put (Ticket t) (Given x) = refl
-settle_put (Ticket t) (Failure e) = refl
-settle_put (Key k) (Given x) = refl
-settle_put (Key k) (Failure e) = refl
+pub settle_value : (target : Target) (x : Value) → settle_fields target (Given x) ≡ field (codes "do") (V.Text (codes "settle")) ∷ target_field target ∷ field (codes "value") x ∷ []
+settle_value (Ticket t) x = refl
+settle_value (Key k) x = refl
+
+pub settle_failure : (target : Target) (e : List ℕ) → settle_fields target (Failure e) ≡ field (codes "do") (V.Text (codes "settle")) ∷ field (codes "error") (V.Text e) ∷ target_field target ∷ []
+settle_failure (Ticket t) e = refl
+settle_failure (Key k) e = refl
+
+pub ruleset settlements = (settle_value, settle_failure, record_json, append_assoc, append-nil)

@@ -1,6 +1,6 @@
 pub mod Printing
+pub mod Pieces
 pub mod Size
 pub mod Written
-pub mod Tickets
 pub mod Objects
 pub mod Refused

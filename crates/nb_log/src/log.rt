@@ -1,6 +1,6 @@
 //! The log, with its size kept.
 
-ghost use Rattle.std.specs.Prelude.{◌≡◌, ◌+◌, ◌-◌, ◌^◌, ◌<◌, ◌≤◌, [], ◌∷◌, ◌++◌, length, min, OnOk};
+ghost use Rattle.std.specs.Prelude.{◌≡◌, ◌+◌, ◌-◌, ◌^◌, ◌<◌, ◌≤◌, [], ◌∷◌, ◌++◌, length, min, OnOk, OnErr};
 ghost use Rattle.std.specs.Option.{option_copied};
 ghost use Rattle.nb_log.specs.Size.{entry_at, total_size};
 
@@ -42,10 +42,11 @@ impl Log {
         }
     }
 
-    /// Makes room for more entries.
+    /// Makes room for more entries, and changes none. It fails only without memory; then the log is as it was, its room too.
     pub fn reserve(&mut self, n: usize) -> Result<(), AllocError>
         ensures same { self.new.entries ≡ self.old.entries }
         ensures room { OnOk result (n ≤ self.new.room) }
+        ensures err { OnErr result (self.new ≡ self.old) }
     {
         self.entries.reserve(n)
     }

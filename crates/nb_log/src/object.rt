@@ -1,186 +1,250 @@
-//! Edits and events as values: their canonical objects.
+//! Edits and events as text: their canonical objects.
 
-ghost use Rattle.std.specs.Prelude.{◌≡◌, ◌^◌, ◌<◌, [], ◌∷◌, codes, IfOk, OnOk};
+ghost use Rattle.std.specs.Prelude.{◌≡◌, [], ◌∷◌, ◌++◌, codes, OnOk};
 ghost use Rattle.nb_value.specs.declared.value.Value.TheVariants as V;
-ghost use Rattle.nb_value.specs.Fields.{put};
+ghost use Rattle.nb_value.specs.Json.{json_text};
 ghost use Rattle.nb_syntax.specs.Print.{cell_text};
-ghost use Rattle.nb_log.specs.Printing.{number, field, answer_field, settle_fields, edit_object, event_object};
-ghost use Rattle.nb_log.specs.Tickets.{target_ticket, HasSmallTicket};
+ghost use Rattle.nb_log.specs.Printing.{number, field, settle_fields, edit_object, event_object};
 ghost use Rattle.nb_log.specs.Objects.{target_field};
+ghost use Rattle.nb_log.specs.Pieces.{field_text};
 
 use crate::event::{Event, Target};
+use crate::piece::{push_number, push_text, push_truth, push_value};
 use nb_sheet::Edit;
 use nb_syntax::{Cell, print};
-use nb_value::{Answer, Pairs, Text, Value};
+use nb_value::{Answer, Bytes, Text, Value};
 use std::alloc::{AllocError, Global};
 
-/// A whole number as a value.
-pub(crate) fn number_value(n: u64) -> Value
-    requires { n < 2 ^ 63 }
-    ensures { result ≡ number n }
+/// Adds the object of an event.
+pub(crate) fn push_event(alloc: Global, out: &mut Bytes, event: &Event) -> Result<(), AllocError>
+    ensures { OnOk result (out.new ≡ out.old ++ json_text (event_object event.now)) }
 {
-    Value::Int(n as i64)
+    match event {
+        Event::Edit(edit) => push_edit(alloc, out, edit),
+        Event::Frame => push_bare(alloc, out, "frame"),
+        Event::Settle { target, answer } => push_settle(alloc, out, target, answer),
+        Event::Rest => push_bare(alloc, out, "rest"),
+        Event::Dispose => push_bare(alloc, out, "dispose"),
+    }
 }
 
-/// A text as a value.
-pub(crate) fn text_value(alloc: Global, text: &str) -> Result<Value, AllocError>
-    ensures { IfOk result (λ v. v ≡ V.Text text.now) }
-{
-    Ok(Value::Text(Text::from_str(alloc, text)?))
-}
-
-// An object with this text at `do`.
-fn object(alloc: Global, action: &str) -> Result<Pairs<Value>, AllocError>
-    ensures { IfOk result (λ fields. fields ≡ field (codes "do") (V.Text action.now) ∷ []) }
-{
-    let mut fields = Pairs::new(alloc);
-    put_value(alloc, &mut fields, "do", text_value(alloc, action)?)?;
-    Ok(fields)
-}
-
-fn put_value(
-    alloc: Global,
-    fields: &mut Pairs<Value>,
-    name: &str,
-    value: Value,
-) -> Result<(), AllocError>
-    ensures { OnOk result (fields.new ≡ put (field name.now value) fields.old) }
-{
-    fields.put(Text::from_str(alloc, name)?, value)
-}
-
-fn put_text(
-    alloc: Global,
-    fields: &mut Pairs<Value>,
-    name: &str,
-    text: &Text,
-) -> Result<(), AllocError>
-    ensures { OnOk result (fields.new ≡ put (field name.now (V.Text text.now)) fields.old) }
-{
-    put_value(alloc, fields, name, Value::Text(text.copy(alloc)?))
-}
-
-// An object with a number beside.
-fn numbered(alloc: Global, action: &str, name: &str, n: u32) -> Result<Pairs<Value>, AllocError>
-    ensures { IfOk result (λ fields.
-        fields ≡ put (field name.now (number n)) (field (codes "do") (V.Text action.now) ∷ [])) }
-{
-    let mut fields = object(alloc, action)?;
-    put_value(alloc, &mut fields, name, number_value(n as u64))?;
-    Ok(fields)
-}
-
-// The same with the text of a cell.
-fn with_cell(
-    alloc: Global,
-    action: &str,
-    name: &str,
-    n: u32,
-    cell: &Cell,
-) -> Result<Pairs<Value>, AllocError>
-    ensures { IfOk result (λ fields. fields ≡ put (field (codes "cell") (V.Text (cell_text cell.now)))
-        (put (field name.now (number n)) (field (codes "do") (V.Text action.now) ∷ []))) }
-{
-    let mut fields = numbered(alloc, action, name, n)?;
-    let text = print(alloc, cell)?;
-    put_value(alloc, &mut fields, "cell", Value::Text(text))?;
-    Ok(fields)
-}
-
-/// The object of an edit.
-pub(crate) fn edit_value(alloc: Global, edit: &Edit) -> Result<Value, AllocError>
-    ensures { IfOk result (λ v. v ≡ edit_object edit.now) }
+/// Adds the object of an edit.
+pub(crate) fn push_edit(alloc: Global, out: &mut Bytes, edit: &Edit) -> Result<(), AllocError>
+    ensures { OnOk result (out.new ≡ out.old ++ json_text (edit_object edit.now)) }
 {
     match edit {
-        Edit::AddModule => Ok(Value::Rec(object(alloc, "module")?)),
-        Edit::AddVariable { module, observed } => {
-            let mut fields = numbered(alloc, "variable", "module", *module)?;
-            put_value(alloc, &mut fields, "observed", Value::Bool(*observed))?;
-            Ok(Value::Rec(fields))
-        }
+        Edit::AddModule => push_bare(alloc, out, "module"),
+        Edit::AddVariable { module, observed } => push_added(alloc, out, *module, *observed),
         Edit::AddCell {
             module,
             cell,
             observed,
-        } => {
-            let mut fields = with_cell(alloc, "cell", "module", *module, cell)?;
-            put_value(alloc, &mut fields, "observed", Value::Bool(*observed))?;
-            Ok(Value::Rec(fields))
-        }
+        } => push_added_cell(alloc, out, *module, cell, *observed),
         Edit::Define { variable, cell } => {
-            Ok(Value::Rec(with_cell(alloc, "define", "variable", *variable, cell)?))
+            push_cell_at(alloc, out, "define", "variable", *variable, cell)
         }
         Edit::Import {
             variable,
             name,
             alias,
             from,
-        } => { import_value(alloc, *variable, name, alias, *from) }
-        Edit::Delete { variable } => {
-            Ok(Value::Rec(numbered(alloc, "delete", "variable", *variable)?))
-        }
+        } => push_import(alloc, out, *variable, name, alias, *from),
+        Edit::Delete { variable } => push_delete(alloc, out, *variable),
         Edit::Redefine { module, cell } => {
-            Ok(Value::Rec(with_cell(alloc, "redefine", "module", *module, cell)?))
+            push_cell_at(alloc, out, "redefine", "module", *module, cell)
         }
     }
 }
 
-fn import_value(
+// An object with this text at `do`, and no more.
+#[tactic(auto, using(crate::proofs::PieceLemmas::records))]
+fn push_bare(alloc: Global, out: &mut Bytes, action: &str) -> Result<(), AllocError>
+    ensures { OnOk result (out.new ≡ out.old ++ json_text (V.Rec (field (codes "do") (V.Text action.now) ∷ []))) }
+{
+    open(alloc, out, "do", action)?;
+    out.append(b"}")
+}
+
+fn push_added(alloc: Global, out: &mut Bytes, within: u32, observed: bool) -> Result<(), AllocError>
+    ensures { OnOk result (out.new ≡ out.old ++ json_text (edit_object (Edit.AddVariable within observed))) }
+{
+    open(alloc, out, "do", "variable")?;
+    push_number_at(alloc, out, "module", within)?;
+    push_truth_at(alloc, out, "observed", observed)?;
+    out.append(b"}")
+}
+
+fn push_added_cell(
     alloc: Global,
+    out: &mut Bytes,
+    within: u32,
+    cell: &Cell,
+    observed: bool,
+) -> Result<(), AllocError>
+    ensures { OnOk result (out.new ≡ out.old ++ json_text (edit_object (Edit.AddCell within cell.now observed))) }
+{
+    open_cell(alloc, out, cell)?;
+    push_text_at(alloc, out, "do", "cell")?;
+    push_number_at(alloc, out, "module", within)?;
+    push_truth_at(alloc, out, "observed", observed)?;
+    out.append(b"}")
+}
+
+// A cell, an action and a number.
+fn push_cell_at(
+    alloc: Global,
+    out: &mut Bytes,
+    action: &str,
+    name: &str,
+    n: u32,
+    cell: &Cell,
+) -> Result<(), AllocError>
+    ensures { OnOk result (out.new ≡ out.old ++ json_text (V.Rec (field (codes "cell") (V.Text (cell_text cell.now))
+        ∷ field (codes "do") (V.Text action.now) ∷ field name.now (number n) ∷ []))) }
+{
+    open_cell(alloc, out, cell)?;
+    push_text_at(alloc, out, "do", action)?;
+    push_number_at(alloc, out, name, n)?;
+    out.append(b"}")
+}
+
+fn push_import(
+    alloc: Global,
+    out: &mut Bytes,
     variable: u32,
     name: &Text,
     alias: &Text,
     from: u32,
-) -> Result<Value, AllocError>
-    ensures { IfOk result (λ v. v ≡ edit_object (Edit.Import variable name.now alias.now from)) }
+) -> Result<(), AllocError>
+    ensures { OnOk result (out.new ≡ out.old ++ json_text (edit_object (Edit.Import variable name.now alias.now from))) }
 {
-    let mut fields = numbered(alloc, "import", "variable", variable)?;
-    put_value(alloc, &mut fields, "from", number_value(from as u64))?;
-    put_text(alloc, &mut fields, "name", name)?;
-    put_text(alloc, &mut fields, "alias", alias)?;
-    Ok(Value::Rec(fields))
+    open(alloc, out, "alias", alias.as_str())?;
+    push_text_at(alloc, out, "do", "import")?;
+    push_number_at(alloc, out, "from", from)?;
+    push_text_at(alloc, out, "name", name.as_str())?;
+    push_number_at(alloc, out, "variable", variable)?;
+    out.append(b"}")
 }
 
-/// The object of an event.
-pub(crate) fn event_value(alloc: Global, event: &Event) -> Result<Value, AllocError>
-    requires { HasSmallTicket event.now }
-    ensures { IfOk result (λ v. v ≡ event_object event.now) }
+fn push_delete(alloc: Global, out: &mut Bytes, variable: u32) -> Result<(), AllocError>
+    ensures { OnOk result (out.new ≡ out.old ++ json_text (edit_object (Edit.Delete variable))) }
 {
-    match event {
-        Event::Edit(edit) => edit_value(alloc, edit),
-        Event::Frame => Ok(Value::Rec(object(alloc, "frame")?)),
-        Event::Settle { target, answer } => settle_value(alloc, target, answer),
-        Event::Rest => Ok(Value::Rec(object(alloc, "rest")?)),
-        Event::Dispose => Ok(Value::Rec(object(alloc, "dispose")?)),
-    }
+    open(alloc, out, "do", "delete")?;
+    push_number_at(alloc, out, "variable", variable)?;
+    out.append(b"}")
 }
 
-#[tactic(auto, using(crate::proofs::ObjectLemmas::settle_put))]
-fn settle_value(alloc: Global, target: &Target, answer: &Answer) -> Result<Value, AllocError>
-    requires { target_ticket target.now < 2 ^ 63 }
-    ensures { IfOk result (λ v. v ≡ V.Rec (settle_fields target.now answer.now)) }
-{
-    let mut fields = object(alloc, "settle")?;
-    put_target(alloc, &mut fields, target)?;
-    put_answer(alloc, &mut fields, answer)?;
-    Ok(Value::Rec(fields))
-}
-
-fn put_target(alloc: Global, fields: &mut Pairs<Value>, target: &Target) -> Result<(), AllocError>
-    requires { target_ticket target.now < 2 ^ 63 }
-    ensures { OnOk result (fields.new ≡ put (target_field target.now) fields.old) }
-{
-    match target {
-        Target::Ticket(ticket) => put_value(alloc, fields, "ticket", number_value(*ticket)),
-        Target::Key(key) => put_text(alloc, fields, "key", key),
-    }
-}
-
-fn put_answer(alloc: Global, fields: &mut Pairs<Value>, answer: &Answer) -> Result<(), AllocError>
-    ensures { OnOk result (fields.new ≡ put (answer_field answer.now) fields.old) }
+fn push_settle(
+    alloc: Global,
+    out: &mut Bytes,
+    target: &Target,
+    answer: &Answer,
+) -> Result<(), AllocError>
+    ensures { OnOk result (out.new ≡ out.old ++ json_text (V.Rec (settle_fields target.now answer.now))) }
 {
     match answer {
-        Answer::Value(value) => put_value(alloc, fields, "value", value.copy(alloc)?),
-        Answer::Failure(text) => put_text(alloc, fields, "error", text),
+        Answer::Value(value) => push_value_for(alloc, out, target, value),
+        Answer::Failure(text) => push_failure_for(alloc, out, target, text),
     }
+}
+
+#[tactic(auto, using(crate::proofs::ObjectLemmas::settlements))]
+fn push_value_for(
+    alloc: Global,
+    out: &mut Bytes,
+    target: &Target,
+    value: &Value,
+) -> Result<(), AllocError>
+    ensures { OnOk result (out.new ≡ out.old ++ json_text (V.Rec (settle_fields target.now (Answer.Value value.now)))) }
+{
+    open(alloc, out, "do", "settle")?;
+    push_target(alloc, out, target)?;
+    push_key(alloc, out, "value")?;
+    push_value(alloc, out, value)?;
+    out.append(b"}")
+}
+
+#[tactic(auto, using(crate::proofs::ObjectLemmas::settlements))]
+fn push_failure_for(
+    alloc: Global,
+    out: &mut Bytes,
+    target: &Target,
+    text: &Text,
+) -> Result<(), AllocError>
+    ensures { OnOk result (out.new ≡ out.old ++ json_text (V.Rec (settle_fields target.now (Answer.Failure text.now)))) }
+{
+    open(alloc, out, "do", "settle")?;
+    push_text_at(alloc, out, "error", text.as_str())?;
+    push_target(alloc, out, target)?;
+    out.append(b"}")
+}
+
+// The field that says which fetch.
+fn push_target(alloc: Global, out: &mut Bytes, target: &Target) -> Result<(), AllocError>
+    ensures { OnOk result (out.new ≡ out.old ++ 44 ∷ field_text (target_field target.now)) }
+{
+    match target {
+        Target::Ticket(ticket) => push_ticket(alloc, out, *ticket),
+        Target::Key(key) => push_text_at(alloc, out, "key", key.as_str()),
+    }
+}
+
+#[tactic(auto, using(crate::proofs::PieceLemmas::records))]
+fn push_ticket(alloc: Global, out: &mut Bytes, ticket: u64) -> Result<(), AllocError>
+    ensures { OnOk result (out.new ≡ out.old ++ 44 ∷ field_text (field (codes "ticket") (number ticket))) }
+{
+    push_key(alloc, out, "ticket")?;
+    push_number(out, ticket)
+}
+
+// The front of an object: its first field, with a text.
+#[tactic(auto, using(crate::proofs::PieceLemmas::records))]
+fn open(alloc: Global, out: &mut Bytes, name: &str, text: &str) -> Result<(), AllocError>
+    ensures { OnOk result (out.new ≡ out.old ++ 123 ∷ field_text (field name.now (V.Text text.now))) }
+{
+    out.append(b"{")?;
+    push_text(alloc, out, name)?;
+    out.append(b":")?;
+    push_text(alloc, out, text)
+}
+
+fn open_cell(alloc: Global, out: &mut Bytes, cell: &Cell) -> Result<(), AllocError>
+    ensures { OnOk result (out.new ≡ out.old ++ 123 ∷ field_text (field (codes "cell") (V.Text (cell_text cell.now)))) }
+{
+    let text = print(alloc, cell)?;
+    open(alloc, out, "cell", text.as_str())
+}
+
+// A comma, a name and a colon.
+#[tactic(auto, using(crate::proofs::PieceLemmas::records))]
+fn push_key(alloc: Global, out: &mut Bytes, name: &str) -> Result<(), AllocError>
+    ensures { OnOk result (out.new ≡ out.old ++ 44 ∷ (json_text (V.Text name.now) ++ 58 ∷ [])) }
+{
+    out.append(b",")?;
+    push_text(alloc, out, name)?;
+    out.append(b":")
+}
+
+#[tactic(auto, using(crate::proofs::PieceLemmas::records))]
+fn push_text_at(alloc: Global, out: &mut Bytes, name: &str, text: &str) -> Result<(), AllocError>
+    ensures { OnOk result (out.new ≡ out.old ++ 44 ∷ field_text (field name.now (V.Text text.now))) }
+{
+    push_key(alloc, out, name)?;
+    push_text(alloc, out, text)
+}
+
+#[tactic(auto, using(crate::proofs::PieceLemmas::records))]
+fn push_number_at(alloc: Global, out: &mut Bytes, name: &str, n: u32) -> Result<(), AllocError>
+    ensures { OnOk result (out.new ≡ out.old ++ 44 ∷ field_text (field name.now (number n))) }
+{
+    push_key(alloc, out, name)?;
+    push_number(out, n as u64)
+}
+
+#[tactic(auto, using(crate::proofs::PieceLemmas::records))]
+fn push_truth_at(alloc: Global, out: &mut Bytes, name: &str, b: bool) -> Result<(), AllocError>
+    ensures { OnOk result (out.new ≡ out.old ++ 44 ∷ field_text (field name.now (V.Bool b))) }
+{
+    push_key(alloc, out, name)?;
+    push_truth(out, b)
 }

@@ -1,144 +1,111 @@
-//! The lines and the sizes of entries, and each call of the log.
-ghost use Rattle.std.specs.Prelude.{All, IfOk, OnOk};
-ghost use Rattle.nb_log.specs.Tickets.{HasSmallTickets};
-
-use crate::array::{done_value, table_value};
-use crate::entry::Entry;
-use crate::lines::{push_entries, push_line};
+//! The lines and the sizes of a few entries, and each call of the log.
+use crate::entry::{Entry, Refusal};
+use crate::event::{Event, Target};
+use crate::lines::push_entries;
 use crate::log::Log;
 use crate::size::entry_size;
-use nb_sheet::Edit;
-use nb_syntax::{Body, Cell, Expr, Operand, Sign};
-use nb_value::{Boxed, Bytes, CellError, ErrorKind, Items, Outcome, Text, Tree, Value};
+use crate::table::{push_done_line, push_table_line};
+use nb_value::{Answer, Bytes, CellError, ErrorKind, Items, Outcome, Text, Tree, Value};
 use std::alloc::{AllocError, Global};
+use std::mem::drop;
 use std::test::Fail;
 
-const LINES: &str =
-    "[\"edit\",0,{\"cell\":\"x = 1 + 2\",\"do\":\"cell\",\"module\":0,\"observed\":true}]\n[\"pending\",1,[]]\n[\"fulfilled\",1,3]\n[\"rejected\",1,\"NotDefined\",\"x\",null]\n";
+const TEXT: &str =
+    "[\"frame\",1]\n[\"pending\",1,[]]\n[\"fulfilled\",1,3]\n[\"rejected\",1,\"NotDefined\",\"x\",null]\n[\"refused\",0,22,\"NoTicket\",{\"do\":\"settle\",\"ticket\":18446744073709551615,\"value\":null}]\n[\"value\",1,\"x\",\"fulfilled\",3]\n[\"done\",5]\n";
 
-const TABLE: &str = "[\"value\",1,\"x\",\"fulfilled\",3]\n[\"done\",5]\n";
-
-// x = 1 + 2
-fn cell(alloc: Global) -> Result<Cell, AllocError> {
-    let mut more = Items::new(alloc);
-    more.push(Operand {
-        sign: Sign::Plus,
-        expr: Expr::Int(2),
-    })?;
-    let first = Boxed::new(alloc, Expr::Int(1))?;
-    Ok(Cell {
-        name: Some(Text::from_str(alloc, "x")?),
-        body: Body::Expr(Expr::Sum(first, more)),
-    })
-}
-
-fn add(all: &mut Vec<Entry>, entry: Entry) -> Result<(), AllocError>
-    requires small { HasSmallTickets entry }
-    requires all_small { All HasSmallTickets all.old.items }
-    ensures { OnOk result (All HasSmallTickets all.new.items) }
-{
-    all.push(entry)?;
-    Ok(())
-}
-
-fn edited(alloc: Global) -> Result<Entry, AllocError>
-    ensures { IfOk result HasSmallTickets }
-{
-    let edit = Edit::AddCell {
-        module: 0,
-        cell: cell(alloc)?,
-        observed: true,
-    };
-    Ok(Entry::Edit { editor: 0, edit })
-}
-
-fn pending(alloc: Global) -> Entry
-    ensures { HasSmallTickets result }
-{
-    Entry::Pending {
-        var: 1,
-        disposed: Items::new(alloc),
+// A settlement of a ticket that no value holds.
+fn settlement() -> Event {
+    Event::Settle {
+        target: Target::Ticket(18_446_744_073_709_551_615),
+        answer: Answer::Value(Value::Null),
     }
 }
 
-fn fulfilled() -> Entry
-    ensures { HasSmallTickets result }
-{
-    Entry::Fulfilled {
-        var: 1,
-        value: Value::Int(3),
-    }
-}
-
-fn rejected(alloc: Global) -> Result<Entry, AllocError>
-    ensures { IfOk result HasSmallTickets }
-{
+fn entries(alloc: Global) -> Result<Vec<Entry>, AllocError> {
     let error = CellError {
         kind: ErrorKind::NotDefined,
         detail: Text::from_str(alloc, "x")?,
         via: None,
     };
-    Ok(Entry::Rejected { var: 1, error })
+    Ok(Vec::from_array(
+        alloc,
+        [
+            Entry::Pending {
+                var: 1,
+                disposed: Items::new(alloc),
+            },
+            Entry::Fulfilled {
+                var: 1,
+                value: Value::Int(3),
+            },
+            Entry::Rejected { var: 1, error },
+            Entry::Refused {
+                editor: 0,
+                reason: Refusal::NoTicket,
+                event: settlement(),
+            },
+        ],
+    )?)
 }
 
-fn entries(alloc: Global) -> Result<Vec<Entry>, AllocError>
-    ensures { IfOk result (λ v. All HasSmallTickets v.items) }
-{
-    let mut all = Vec::new(alloc);
-    add(&mut all, edited(alloc)?)?;
-    add(&mut all, pending(alloc))?;
-    add(&mut all, fulfilled())?;
-    add(&mut all, rejected(alloc)?)?;
-    Ok(all)
-}
-
-fn log_of(alloc: Global, entries: Vec<Entry>) -> Result<Log, AllocError>
-    requires { All HasSmallTickets entries.items }
-    ensures { IfOk result (λ log. All HasSmallTickets log.entries) }
-{
+// The log of a frame and these entries.
+fn log_of(alloc: Global, entries: Vec<Entry>) -> Result<Log, AllocError> {
     let mut log = Log::new(alloc);
-    log.reserve(entries.len())?;
+    log.reserve(entries.len() + 1)?;
+    log.push(Entry::Frame { editor: 1 });
     log.append(entries);
     Ok(log)
 }
 
-// Whether the text of the entries is this one.
-fn has_lines(alloc: Global, log: &Log, lines: &str) -> Result<bool, AllocError>
-    requires { All HasSmallTickets log.now.entries }
-{
+// The lines of the log, a line of the table and the last one.
+fn printed(alloc: Global, log: &Log) -> Result<Bytes, AllocError> {
     let mut out = Bytes::new(alloc);
     push_entries(alloc, &mut out, log.as_slice())?;
-    Ok(out.as_slice() == lines.as_bytes())
+    let name = Text::from_str(alloc, "x")?;
+    let shown = Outcome::Value(Value::Int(3));
+    push_table_line(alloc, &mut out, 1, Some(&name), Some(&shown))?;
+    push_done_line(alloc, &mut out, log.len())?;
+    Ok(out)
+}
+
+// The size of the entry at a place, or 0.
+fn size_at(log: &Log, place: u64) -> u64 {
+    match log.get(place) {
+        Some(entry) => entry_size(entry),
+        None => 0,
+    }
 }
 
 #[test]
 fn keeps_and_prints(rt: HostRuntime) -> Result<(), Fail> {
     let alloc = rt.alloc();
-    let mut log = log_of(alloc, entries(alloc)?)?;
-    assert!(rt; has_lines(alloc, &log, LINES)?);
-    log.reserve(1)?;
-    log.push(Entry::Frame { editor: 1 });
-    assert_eq!(rt; log.len(), 5);
-    assert_eq!(rt; log.size(), 49 + 11 + 13 + 25 + 8);
-    assert!(rt; log.get(0).is_none());
-    assert!(rt; matches!(log.get(5), Some(Entry::Frame { editor: 1 })));
-    assert_eq!(rt; log.get(2).map_or(0, |entry| entry_size(entry)), 11);
+    let log = log_of(alloc, entries(alloc)?)?;
+    let text = printed(alloc, &log);
+    let sizes = [
+        size_at(&log, 0),
+        size_at(&log, 1),
+        size_at(&log, 2),
+        size_at(&log, 3),
+        size_at(&log, 4),
+        size_at(&log, 5),
+        log.size(),
+    ];
+    drop(log);
+    assert_eq!(rt; sizes, [0, 8, 11, 13, 25, 46, 103]);
+    assert!(rt; text?.as_slice() == TEXT.as_bytes());
     Ok(())
 }
 
+fn is_copied(alloc: Global, event: &Event) -> Result<bool, AllocError> {
+    let copy = event.copy(alloc)?;
+    Ok(copy.same(event))
+}
+
 #[test]
-fn prints_the_table(rt: HostRuntime) -> Result<(), Fail> {
-    let alloc = rt.alloc();
-    let mut out = Bytes::new(alloc);
-    let name = Text::from_str(alloc, "x")?;
-    let shown = Outcome::Value(Value::Int(3));
-    push_line(
-        alloc,
-        &mut out,
-        &table_value(alloc, 1, Some(&name), Some(&shown))?,
-    )?;
-    push_line(alloc, &mut out, &done_value(alloc, 5)?)?;
-    assert!(rt; out.as_slice() == TABLE.as_bytes());
-    assert!(rt; cell(alloc)?.copy(alloc)?.same(&cell(alloc)?));
+fn copies_an_event(rt: HostRuntime) -> Result<(), Fail> {
+    let event = settlement();
+    let copied = is_copied(rt.alloc(), &event);
+    drop(event);
+    assert!(rt; copied?);
     Ok(())
 }

@@ -1,5 +1,4 @@
-ghost use Rattle.std.specs.Prelude.{◌≡◌, [], All, IfOk, IfErr, OnOk};
-ghost use Rattle.nb_log.specs.Tickets.{HasSmallTickets};
+ghost use Rattle.std.specs.Prelude.{◌≡◌, [], IfOk, IfErr, OnOk};
 ghost use Rattle.nb_history.specs.Headline.{IsHistoryOf};
 ghost use Rattle.nb_history.specs.History.{IsClosedHistory, standing};
 ghost use Rattle.nb_history.specs.Log.{admit};
@@ -18,7 +17,6 @@ pub fn history(alloc: Global, lines: &Scripts) -> Result<Core, AllocError>
     requires { AllAddCells lines.now }
     ensures builtins { IfOk result (λ core. core.builtins ≡ []) }
     ensures history { IfOk result (λ core. IsHistoryOf [] [] (script_lines lines.now) [] core.log) }
-    ensures tickets { IfOk result (λ core. All HasSmallTickets core.log) }
 {
     let mut core = Core::new(alloc, Pairs::new(alloc))?;
     for line in lines.as_slice() {

@@ -1,20 +1,18 @@
-ghost use Rattle.std.specs.Prelude.{◌≡◌, ◌≤◌, ◌<◌, ◌++◌, length, IfOk, OnOk, All, Some};
+ghost use Rattle.std.specs.Prelude.{◌≡◌, ◌≤◌, ◌<◌, ◌++◌, length, IfOk, OnOk, Some};
 ghost use Rattle.nb_log.specs.Printing.{entries_text, line_text, done_value as done_of};
-ghost use Rattle.nb_log.specs.Tickets.{HasSmallTickets};
 ghost use Rattle.nb_sheet.specs.Lists.{nth};
 ghost use Rattle.nb_history.specs.Print.{table_text, printing};
 ghost use Rattle.nb_history.specs.History.{standing};
 ghost use Rattle.nb_print.specs.Table.{var_text};
 
 use nb_core::Core;
-use nb_log::{Log, done_value, push_entries, push_line, table_value};
+use nb_log::{Log, push_done_line, push_entries, push_table_line};
 use nb_sheet::VarRow;
 use nb_value::Bytes;
 use std::alloc::{AllocError, Global};
 
 /// The lines of a log's entries, in order. Linear in their text.
 pub fn print_log(alloc: Global, log: &Log) -> Result<Bytes, AllocError>
-    requires { All HasSmallTickets log.now.entries }
     ensures { IfOk result (λ text. text ≡ entries_text log.now.entries) }
 {
     let mut out = Bytes::new(alloc);
@@ -29,14 +27,12 @@ pub fn print_table(alloc: Global, core: &Core) -> Result<Bytes, AllocError>
 {
     let mut out = Bytes::new(alloc);
     push_table(alloc, &mut out, core)?;
-    let done = done_value(alloc, core.log().len())?;
-    push_line(alloc, &mut out, &done)?;
+    push_done_line(alloc, &mut out, core.log().len())?;
     Ok(out)
 }
 
 /// All that is written of a core: the lines of its log, and its table.
 pub fn print(alloc: Global, core: &Core) -> Result<Bytes, AllocError>
-    requires { All HasSmallTickets core.now.log }
     ensures { IfOk result (λ text. text ≡ printing core.now.builtins core.now.log) }
 {
     let mut text = print_log(alloc, core.log())?;
@@ -77,6 +73,5 @@ fn push_variable(
     if !core.wanted(var) {
         return Ok(());
     }
-    let value = table_value(alloc, var, row.name.as_ref(), core.outcome(var))?;
-    push_line(alloc, out, &value)
+    push_table_line(alloc, out, var, row.name.as_ref(), core.outcome(var))
 }

@@ -8,108 +8,235 @@ use std::alloc::{AllocError, Global};
 use std::mem::drop;
 use std::test::Fail;
 
-// 0 where the edit is done, and otherwise the number of the reason against it.
-fn take(sheet: &mut Sheet, edit: Edit, place: u64) -> Result<u32, AllocError> {
-    match sheet.check(&edit) {
-        Err(reason) => {
-            drop(edit);
-            Ok(reason as u32)
-        }
-        Ok(()) => {
-            let done = sheet.apply(&edit, place);
-            drop(edit);
-            done?;
-            Ok(0)
-        }
-    }
+// An edit. A cell is a number under its name, or under none.
+#[derive(Clone, Copy)]
+enum Act {
+    Module,
+    Variable(u32),
+    Cell(u32, &'static str),
+    Define(u32, &'static str),
+    /// The variable stands for `name` of this module, as `alias`.
+    Import(u32, u32),
+    Delete(u32),
+    Redefine(u32, &'static str),
 }
 
-// The cell `name = n`.
-fn cell(alloc: Global, name: &str, n: i64) -> Result<Cell, AllocError> {
-    let own = Text::from_str(alloc, name)?;
+// A variable's name, its body and its place. The body is a cell, an import of a module's variable, or none.
+type Row = (&'static str, (&'static str, u32), u64);
+
+// An edit that is made so many times at a place, the reason against it or 0, and how variables stand behind it.
+struct Step {
+    act: Act,
+    times: u32,
+    place: u64,
+    reason: u32,
+    rows: &'static [(u32, Row)],
+}
+
+// The edit is done, at place 1.
+const DONE: Step = Step {
+    act: Act::Module,
+    times: 1,
+    place: 1,
+    reason: 0,
+    rows: &[],
+};
+
+const CELLS_DEFINE_VARIABLES: &[Step] = &[
+    DONE,
+    Step {
+        act: Act::Cell(0, "x"),
+        place: 2,
+        ..DONE
+    },
+    Step {
+        act: Act::Variable(1),
+        rows: &[(1, ("x", ("cell", 0), 2)), (2, ("", ("", 0), 0))],
+        ..DONE
+    },
+    Step {
+        act: Act::Define(2, "x"),
+        place: 5,
+        ..DONE
+    },
+    Step {
+        act: Act::Redefine(0, "x"),
+        place: 6,
+        rows: &[(1, ("x", ("cell", 0), 6)), (2, ("x", ("cell", 0), 5))],
+        ..DONE
+    },
+];
+
+const IMPORTS_AND_DELETES: &[Step] = &[
+    Step {
+        act: Act::Cell(0, "x"),
+        ..DONE
+    },
+    Step {
+        act: Act::Import(1, 0),
+        place: 7,
+        rows: &[(1, ("alias", ("name", 0), 7))],
+        ..DONE
+    },
+    Step {
+        act: Act::Delete(1),
+        place: 8,
+        rows: &[(1, ("", ("", 0), 0)), (2, ("no variable", ("", 0), 0))],
+        ..DONE
+    },
+];
+
+const REASONS_IN_ORDER: &[Step] = &[
+    Step {
+        act: Act::Cell(0, "x"),
+        reason: 0,
+        ..DONE
+    },
+    Step {
+        act: Act::Cell(1, "x"),
+        reason: 1,
+        ..DONE
+    },
+    Step {
+        act: Act::Variable(1),
+        reason: 1,
+        ..DONE
+    },
+    Step {
+        act: Act::Define(0, "x"),
+        reason: 2,
+        ..DONE
+    },
+    Step {
+        act: Act::Define(2, "x"),
+        reason: 2,
+        ..DONE
+    },
+    Step {
+        act: Act::Import(2, 1),
+        reason: 1,
+        ..DONE
+    },
+    Step {
+        act: Act::Import(2, 0),
+        reason: 2,
+        ..DONE
+    },
+    Step {
+        act: Act::Delete(2),
+        reason: 2,
+        ..DONE
+    },
+    Step {
+        act: Act::Redefine(1, "y"),
+        reason: 1,
+        ..DONE
+    },
+    Step {
+        act: Act::Redefine(0, "y"),
+        reason: 5,
+        ..DONE
+    },
+    Step {
+        act: Act::Redefine(0, ""),
+        reason: 5,
+        ..DONE
+    },
+    Step {
+        act: Act::Cell(0, "x"),
+        reason: 0,
+        ..DONE
+    },
+    Step {
+        act: Act::Redefine(0, "x"),
+        reason: 6,
+        rows: &[(1, ("x", ("cell", 0), 1))],
+        ..DONE
+    },
+];
+
+const LIMITS: &[Step] = &[
+    Step { times: 63, ..DONE },
+    Step {
+        act: Act::Module,
+        reason: 3,
+        ..DONE
+    },
+    Step {
+        act: Act::Variable(63),
+        times: 1024,
+        ..DONE
+    },
+    Step {
+        act: Act::Variable(63),
+        reason: 4,
+        ..DONE
+    },
+    Step {
+        act: Act::Variable(64),
+        reason: 1,
+        ..DONE
+    },
+];
+
+// The cell `name = 1`, or `1` for no name.
+fn cell(alloc: Global, name: &str) -> Result<Cell, AllocError> {
+    let mut own = None;
+    if !name.is_empty() {
+        own = Some(Text::from_str(alloc, name)?);
+    }
     Ok(Cell {
-        name: Some(own),
-        body: Body::Expr(Expr::Int(n)),
+        name: own,
+        body: Body::Expr(Expr::Int(1)),
     })
 }
 
-fn unnamed(sheet: &mut Sheet) -> Result<u32, AllocError> {
-    let cell = Cell {
-        name: None,
-        body: Body::Expr(Expr::Int(1)),
-    };
-    take(sheet, Edit::Redefine { module: 0, cell }, 9)
-}
-
-fn add_cell(
-    alloc: Global,
-    sheet: &mut Sheet,
-    module: u32,
-    name: &str,
-    place: u64,
-) -> Result<u32, AllocError> {
-    let cell = cell(alloc, name, 1)?;
-    take(
-        sheet,
-        Edit::AddCell {
-            module,
-            cell,
-            observed: true,
-        },
-        place,
-    )
-}
-
-fn add_variable(sheet: &mut Sheet, module: u32) -> Result<u32, AllocError> {
-    take(
-        sheet,
-        Edit::AddVariable {
-            module,
-            observed: false,
-        },
-        9,
-    )
-}
-
-fn define(
-    alloc: Global,
-    sheet: &mut Sheet,
-    variable: u32,
-    name: &str,
-    place: u64,
-) -> Result<u32, AllocError> {
-    let cell = cell(alloc, name, 2)?;
-    take(sheet, Edit::Define { variable, cell }, place)
-}
-
-fn redefine(
-    alloc: Global,
-    sheet: &mut Sheet,
-    module: u32,
-    name: &str,
-    place: u64,
-) -> Result<u32, AllocError> {
-    let cell = cell(alloc, name, 3)?;
-    take(sheet, Edit::Redefine { module, cell }, place)
-}
-
-// Imports `name` as `alias`.
-fn import(alloc: Global, sheet: &mut Sheet, variable: u32, from: u32) -> Result<u32, AllocError> {
+fn import(alloc: Global, variable: u32, from: u32) -> Result<Edit, AllocError> {
     let name = Text::from_str(alloc, "name")?;
     let alias = Text::from_str(alloc, "alias")?;
-    take(
-        sheet,
-        Edit::Import {
-            variable,
-            name,
-            alias,
-            from,
-        },
-        7,
-    )
+    Ok(Edit::Import {
+        variable,
+        name,
+        alias,
+        from,
+    })
 }
 
-// What a variable's body is: a cell, an import of this module's `name`, or none.
+fn edit_of(alloc: Global, act: Act) -> Result<Edit, AllocError> {
+    match act {
+        Act::Module => Ok(Edit::AddModule),
+        Act::Variable(module) => Ok(Edit::AddVariable {
+            module,
+            observed: false,
+        }),
+        Act::Cell(module, name) => Ok(Edit::AddCell {
+            module,
+            cell: cell(alloc, name)?,
+            observed: true,
+        }),
+        Act::Define(variable, name) => Ok(Edit::Define {
+            variable,
+            cell: cell(alloc, name)?,
+        }),
+        Act::Import(variable, from) => import(alloc, variable, from),
+        Act::Delete(variable) => Ok(Edit::Delete { variable }),
+        Act::Redefine(module, name) => Ok(Edit::Redefine {
+            module,
+            cell: cell(alloc, name)?,
+        }),
+    }
+}
+
+// 0 where the edit is done, and otherwise the number of the reason against it.
+fn take(sheet: &mut Sheet, edit: Edit, place: u64) -> Result<u32, AllocError> {
+    let answer = match sheet.check(&edit) {
+        Err(reason) => Ok(reason as u32),
+        Ok(()) => sheet.apply(&edit, place).map(|_| 0),
+    };
+    drop(edit);
+    answer
+}
+
 fn body(body: &Option<BodyOf>) -> (&str, u32) {
     match body {
         Some(BodyOf::Cell(_)) => ("cell", 0),
@@ -118,7 +245,6 @@ fn body(body: &Option<BodyOf>) -> (&str, u32) {
     }
 }
 
-// A variable's name, body and place.
 fn shown(sheet: &Sheet, variable: u32) -> (&str, (&str, u32), u64) {
     match sheet.variable(variable) {
         None => ("no variable", ("", 0), 0),
@@ -129,83 +255,60 @@ fn shown(sheet: &Sheet, variable: u32) -> (&str, (&str, u32), u64) {
     }
 }
 
-#[test]
-fn cells_define_variables(rt: HostRuntime) -> Result<(), Fail> {
-    let alloc = rt.alloc();
+fn stand(sheet: &Sheet, rows: &[(u32, Row)]) -> bool {
+    rows.iter()
+        .all(|(variable, row)| shown(sheet, *variable) == *row)
+}
+
+// Whether the step comes out as it says.
+fn comes_out(alloc: Global, sheet: &mut Sheet, step: &Step) -> Result<bool, AllocError> {
+    for _ in 0..step.times {
+        let edit = edit_of(alloc, step.act)?;
+        if take(sheet, edit, step.place)? != step.reason {
+            return Ok(false);
+        }
+    }
+    Ok(stand(sheet, step.rows))
+}
+
+fn all_come_out(alloc: Global, sheet: &mut Sheet, steps: &[Step]) -> Result<bool, AllocError> {
+    for step in steps {
+        if !comes_out(alloc, sheet, step)? {
+            return Ok(false);
+        }
+    }
+    Ok(true)
+}
+
+// Whether the last variable goes.
+fn retracts(sheet: &mut Sheet) -> bool {
+    let last = sheet.rows().len();
+    if last == 0 {
+        return false;
+    }
+    sheet.retract();
+    sheet.rows().len() == last - 1
+}
+
+// Whether the steps come out on a new sheet, and the last variable can go.
+fn plays(alloc: Global, steps: &[Step]) -> Result<bool, AllocError> {
     let mut sheet = Sheet::new(alloc, Pairs::new(alloc))?;
-    assert_eq!(rt; take(&mut sheet, Edit::AddModule, 1)?, 0);
-    let done = [
-        add_cell(alloc, &mut sheet, 0, "x", 2)?,
-        add_variable(&mut sheet, 1)?,
-    ];
-    assert_eq!(rt; done, [0, 0]);
-    assert_eq!(rt; shown(&sheet, 1), ("x", ("cell", 0), 2));
-    assert_eq!(rt; shown(&sheet, 2), ("", ("", 0), 0));
-    let done = [
-        define(alloc, &mut sheet, 2, "x", 5)?,
-        redefine(alloc, &mut sheet, 0, "x", 6)?,
-    ];
-    assert_eq!(rt; done, [0, 0]);
-    assert_eq!(rt; shown(&sheet, 1), ("x", ("cell", 0), 6));
-    assert_eq!(rt; shown(&sheet, 2), ("x", ("cell", 0), 5));
-    Ok(())
+    let come_out = all_come_out(alloc, &mut sheet, steps);
+    let retracted = retracts(&mut sheet);
+    drop(sheet);
+    Ok(come_out? && retracted)
 }
 
 #[test]
-fn imports_and_deletes(rt: HostRuntime) -> Result<(), Fail> {
-    let alloc = rt.alloc();
-    let mut sheet = Sheet::new(alloc, Pairs::new(alloc))?;
-    let done = [
-        add_cell(alloc, &mut sheet, 0, "x", 1)?,
-        import(alloc, &mut sheet, 1, 0)?,
+fn edits_come_out(rt: HostRuntime) -> Result<(), Fail> {
+    let tables = [
+        CELLS_DEFINE_VARIABLES,
+        IMPORTS_AND_DELETES,
+        REASONS_IN_ORDER,
+        LIMITS,
     ];
-    assert_eq!(rt; done, [0, 0]);
-    assert_eq!(rt; shown(&sheet, 1), ("alias", ("name", 0), 7));
-    assert_eq!(rt; take(&mut sheet, Edit::Delete { variable: 1 }, 8)?, 0);
-    assert_eq!(rt; shown(&sheet, 1), ("", ("", 0), 0));
-    if !sheet.rows().is_empty() {
-        sheet.retract();
+    for (i, steps) in tables.iter().enumerate() {
+        assert!(rt; plays(rt.alloc(), steps)?, "table {i}");
     }
-    assert_eq!(rt; shown(&sheet, 1), ("no variable", ("", 0), 0));
-    Ok(())
-}
-
-#[test]
-fn reasons_come_in_their_order(rt: HostRuntime) -> Result<(), Fail> {
-    let alloc = rt.alloc();
-    let mut sheet = Sheet::new(alloc, Pairs::new(alloc))?;
-    let reasons = [
-        add_cell(alloc, &mut sheet, 0, "x", 1)?,
-        add_cell(alloc, &mut sheet, 1, "x", 2)?,
-        add_variable(&mut sheet, 1)?,
-        define(alloc, &mut sheet, 0, "x", 3)?,
-        define(alloc, &mut sheet, 2, "x", 3)?,
-        import(alloc, &mut sheet, 2, 1)?,
-        import(alloc, &mut sheet, 2, 0)?,
-        take(&mut sheet, Edit::Delete { variable: 2 }, 3)?,
-        redefine(alloc, &mut sheet, 1, "y", 3)?,
-        redefine(alloc, &mut sheet, 0, "y", 3)?,
-        unnamed(&mut sheet)?,
-        add_cell(alloc, &mut sheet, 0, "x", 3)?,
-        redefine(alloc, &mut sheet, 0, "x", 4)?,
-    ];
-    assert_eq!(rt; reasons, [0, 1, 1, 2, 2, 1, 2, 2, 1, 5, 5, 0, 6]);
-    assert_eq!(rt; shown(&sheet, 1), ("x", ("cell", 0), 1));
-    Ok(())
-}
-
-#[test]
-fn modules_and_variables_are_limited(rt: HostRuntime) -> Result<(), Fail> {
-    let alloc = rt.alloc();
-    let mut sheet = Sheet::new(alloc, Pairs::new(alloc))?;
-    for _more in 1..64 {
-        assert_eq!(rt; take(&mut sheet, Edit::AddModule, 1)?, 0);
-    }
-    assert_eq!(rt; take(&mut sheet, Edit::AddModule, 1)?, 3);
-    for _more in 0..1024 {
-        assert_eq!(rt; add_variable(&mut sheet, 63)?, 0);
-    }
-    assert_eq!(rt; add_variable(&mut sheet, 63)?, 4);
-    assert_eq!(rt; add_variable(&mut sheet, 64)?, 1);
     Ok(())
 }

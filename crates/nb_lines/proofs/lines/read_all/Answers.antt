@@ -1,7 +1,7 @@
 -- A line that is not read, the last line, and a line with others behind it.
-use Rattle.std.proofs.Common.{◌≡◌, ◌+◌, ◌<◌, [], ◌∷◌, length, sym, ap, ◌∙◌, arith, subst, append-nil, IfNone, IfSome}
+use Rattle.std.proofs.Common.{◌≡◌, [], ◌∷◌, sym, ap, ◌∙◌, arith, subst, append-nil, IfNone, IfSome}
 use Rattle.nb_lines.specs.Lines.{lines, told, fault_among, scripts_before}
-use Rattle.nb_lines.proofs.LineLemmas.{first_of, stops, passes, later_bad, later_scripts}
+use Rattle.nb_lines.proofs.LineLemmas.{few_lines, first_of, stops, passes, later_bad, later_scripts}
 use Rattle.nb_lines.proofs.lines.read_all.Goals as goal
 
 pub returns-in_err-add_line : goal.returns-in_err-add_line
@@ -18,14 +18,14 @@ returns-in-None c =
           ∙ append-nil c.add_line.new.found),
     )
 
+pub overflow_add-number : goal.overflow_add-number
+overflow_add-number c = omega (arith, few_lines c.lines.number c.cut_line.result.0.now c.in_ok-add_line.ensures.0)
+
 pub lines-preserved : goal.lines-preserved
 lines-preserved c =
     let first : lines c.lines.rest.now ≡ c.cut_line.result.0.now ∷ lines c.in-Some.more.now
     = subst (λ o. IfSome o (λ m. lines c.lines.rest.now ≡ c.cut_line.result.0.now ∷ lines m.now)) c.in-Some.is c.cut_line.ensures.first in
-    let shorter : length c.in-Some.more.now < length c.lines.rest.now
-    = subst (λ o. IfSome o (λ m. length m.now < length c.lines.rest.now)) c.in-Some.is c.cut_line.ensures.shorter in
     record {
       bad = later_bad _ c.lines.number (lines c.lines.rest.now) c.cut_line.result.0.now _ c.lines.invariant.bad first c.in_ok-add_line.ensures.0;
       before = later_scripts _ c.lines.number (lines c.lines.rest.now) c.cut_line.result.0.now _ c.lines.found c.add_line.new.found c.lines.invariant.before first c.in_ok-add_line.ensures.0 c.in_ok-add_line.ensures.1;
-      within = omega (arith, shorter);
     }

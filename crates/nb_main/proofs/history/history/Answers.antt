@@ -3,7 +3,6 @@ use Rattle.nb_lines.specs.declared.script.ScriptLine.{ScriptLine}
 use Rattle.nb_lines.specs.Lines.{AddsCell, AllAddCells, script_lines}
 use Rattle.nb_history.specs.Headline.{IsHistoryOf}
 use Rattle.nb_main.proofs.RunLemmas.{begins_here, turn, running_ends, adds_at}
-use Rattle.nb_main.proofs.TicketLemmas.{all_small}
 use Rattle.nb_main.proofs.history.history.Goals as goal
 
 pub loop-line-init : goal.loop-line-init
@@ -18,12 +17,8 @@ take_line-requires c =
 pub loop-line-preserved : goal.loop-line-preserved
 loop-line-preserved c =
     let inside : c.loop-line.line-index < length c.as_slice-line-items.result.now = omega arith in
-    turn c.as_slice-line-items.result.now c.loop-line.line-index c.line-item.result c.loop-line.core c.take_line.new.core inside c.line-item.is
-    (subst AllAddCells (sym c.as_slice-line-items.ensures) c.requires) c.loop-line.invariant
+    turn c.as_slice-line-items.result.now c.loop-line.line-index c.line-item.result c.loop-line.core c.take_line.new.core inside c.line-item.is c.loop-line.invariant
     c.in_ok-take_line.ensures.takes c.in_ok-take_line.ensures.closed
-
-pub returns-clause-tickets : goal.returns-clause-tickets
-returns-clause-tickets c = all_small c.loop-line.core.log c.loop-line.invariant.small
 
 pub returns-clause-history : goal.returns-clause-history
 returns-clause-history c =
