@@ -183,10 +183,7 @@ fn kinds() -> [(&'static str, &'static str); 21] {
             "x = block plain: b c",
         ),
         ("{ let a = a; return a; }", "block plain: a"),
-        (
-            "{ let a = 1; let a = a + b; return a; }",
-            "block plain: b",
-        ),
+        ("{ let a = 1; let a = a + b; return a; }", "block plain: b"),
         (
             "{ for (let i of i) { i = i + j; } return i; }",
             "block plain: i j",
