@@ -2,7 +2,7 @@
 use Rattle.std.proofs.Common.{◌≡◌, ◌∙◌, ap, sym, refl, ◌<◌, ℕ, suc, ◌+◌, ◌-◌, Ok, List, ◌∷◌, arith}
 use Rattle.nb_syntax.specs.declared.tree.Expr.TheVariants as tree
 use Rattle.nb_grammar.specs.Words.{sum_sign, product_sign}
-use Rattle.nb_grammar.specs.Reading.{◌>>=◌, product, unary, sum, expr, inside_of, compare_at, item, next_pair, close_square, close_curly}
+use Rattle.nb_grammar.specs.Reading.{◌>>=◌, product, unary, sum, expr, inside_of, compare_at, or_part, and_part, operand, item, next_pair, close_square, close_curly}
 use Rattle.nb_grammar.proofs.Loops.{rounds_turn, or_part_falls, and_part_falls, summand_falls, factor_falls, step_falls, item_falls, pair_falls}
 use Rattle.nb_parser.proofs.Turns.{turn, stop, rounds_stop, bind_ok, bind_err, fails, or_at, and_at, item_at, pair_at, operand_at, compared_at, items_begin, pairs_begin, argument_turn, argument_comma, argument_stop}
 use Rattle.nb_parser.proofs.expressions.+expressions.Goals as goal
@@ -16,7 +16,7 @@ or_parts-parts-preserved t c = record {
 
 pub or_parts-returns-in_err-part-clause-gives : goal.or_parts-returns-in_err-part-clause-gives
 or_parts-returns-in_err-part-clause-gives t c = fails _ _ _ _ _ c.from_residual.ensures.1 c.in_err-part.ensures.gives (λ f is.
-    rounds_stop _ c.parts.more c.parts.rest.now f _ (or_at (inside_of c.args.room) c.parts.rest.now c.in-Some.behind.now c.in-Some.ensures.value ∙ bind_err _ _ f is) c.parts.invariant.same)
+    rounds_stop (or_part (inside_of c.args.room)) c.parts.more c.parts.rest.now f _ (or_at (inside_of c.args.room) c.parts.rest.now c.in-Some.behind.now c.in-Some.ensures.value ∙ bind_err _ _ f is) c.parts.invariant.same)
 
 pub and_parts-parts-preserved : goal.and_parts-parts-preserved
 and_parts-parts-preserved t c = record {
@@ -27,7 +27,7 @@ and_parts-parts-preserved t c = record {
 
 pub and_parts-returns-in_err-part-clause-gives : goal.and_parts-returns-in_err-part-clause-gives
 and_parts-returns-in_err-part-clause-gives t c = fails _ _ _ _ _ c.from_residual.ensures.1 c.in_err-part.ensures.gives (λ f is.
-    rounds_stop _ c.parts.more c.parts.rest.now f _ (and_at (inside_of c.args.room) c.parts.rest.now c.in-Some.behind.now c.in-Some.ensures.value ∙ bind_err _ _ f is) c.parts.invariant.same)
+    rounds_stop (and_part (inside_of c.args.room)) c.parts.more c.parts.rest.now f _ (and_at (inside_of c.args.room) c.parts.rest.now c.in-Some.behind.now c.in-Some.ensures.value ∙ bind_err _ _ f is) c.parts.invariant.same)
 
 pub summands-operands-preserved : goal.summands-operands-preserved
 summands-operands-preserved t c = record {
@@ -38,7 +38,7 @@ summands-operands-preserved t c = record {
 
 pub summands-returns-in_err-expr-clause-gives : goal.summands-returns-in_err-expr-clause-gives
 summands-returns-in_err-expr-clause-gives t c = fails _ _ _ _ _ c.from_residual.ensures.1 c.in_err-expr.ensures.gives (λ f is.
-    rounds_stop _ c.operands.more c.operands.rest.now f _ (operand_at sum_sign (product (inside_of c.args.room)) c.operands.rest.now c.in-Some.behind.now c.in-Some.sign c.in-Some.ensures.value ∙ bind_err _ _ f is) c.operands.invariant.same)
+    rounds_stop (operand sum_sign (product (inside_of c.args.room))) c.operands.more c.operands.rest.now f _ (operand_at sum_sign (product (inside_of c.args.room)) c.operands.rest.now c.in-Some.behind.now c.in-Some.sign c.in-Some.ensures.value ∙ bind_err _ _ f is) c.operands.invariant.same)
 
 pub factors-operands-preserved : goal.factors-operands-preserved
 factors-operands-preserved t c = record {
@@ -49,7 +49,7 @@ factors-operands-preserved t c = record {
 
 pub factors-returns-in_err-expr-clause-gives : goal.factors-returns-in_err-expr-clause-gives
 factors-returns-in_err-expr-clause-gives t c = fails _ _ _ _ _ c.from_residual.ensures.1 c.in_err-expr.ensures.gives (λ f is.
-    rounds_stop _ c.operands.more c.operands.rest.now f _ (operand_at product_sign (unary (inside_of c.args.room)) c.operands.rest.now c.in-Some.behind.now c.in-Some.sign c.in-Some.ensures.value ∙ bind_err _ _ f is) c.operands.invariant.same)
+    rounds_stop (operand product_sign (unary (inside_of c.args.room))) c.operands.more c.operands.rest.now f _ (operand_at product_sign (unary (inside_of c.args.room)) c.operands.rest.now c.in-Some.behind.now c.in-Some.sign c.in-Some.ensures.value ∙ bind_err _ _ f is) c.operands.invariant.same)
 
 pub items-more-preserved : goal.items-more-preserved
 items-more-preserved t c = record {
