@@ -9,8 +9,6 @@ mod lexer;
 mod name;
 mod number;
 mod quoted;
-#[cfg(test)]
-mod tests;
 mod token;
 mod word;
 mod word_list;

@@ -8,6 +8,7 @@ use Rattle.nb_syntax.specs.declared.tree.Cell.{Cell}
 use Rattle.nb_grammar.specs.declared.fault.Fault.{Fault}
 use Rattle.nb_grammar.specs.Reading.{whole}
 use Rattle.nb_grammar.specs.Law.{Spells, IsFault, IsRead}
+use Rattle.nb_grammar.proofs.Viable.{parsed, only, one}
 use Rattle.nb_parser.proofs.GrammarLaws as grammar
 use Rattle.nb_parser.specs.declared.error.ParseError.{ParseError}
 use Rattle.nb_parser.specs.declared.error.ParseError.TheVariants.{Lex, Unexpected, Ended, TooDeep, Memory}
@@ -25,12 +26,12 @@ cell_parses text c e = each (words_of text) refl e
   where
     each : (o : Option (List Word)) → words_of text ≡ o → if_words o ≡ Some c → Parses text c
     each None is e = cc
-    each (Some ws) is e = record { words = ws; has = words_read text ws is; spells = read_spells ws c (whole 64 ws) (grammar.read_is 64 ws) e }
+    each (Some ws) is e = record { words = ws; has = words_read text ws is; spells = read_spells ws c (whole 64 ws) (parsed 64 ws) e }
 
 pub parses_cell : (text : List ℕ) (c : Cell) → Parses text c → cell_of text ≡ Some c
 unfolding cell_of
 parses_cell text c p =
-    ap if_words (read_words text p.words p.has) ∙ ap if_read (grammar.spelled_read 64 p.words c p.spells)
+    ap if_words (read_words text p.words p.has) ∙ ap if_read (only 64 p.words (Ok c) p.spells)
 
 -- A text has one list of words.
 words_same : (text : List ℕ) (ws vs : List Word) → HasWords text ws → HasWords text vs → ws ≡ vs
@@ -38,7 +39,7 @@ words_same text ws vs h k = (same.one_reading text h.0 k.0 ws vs h.1 k.1).1
 
 pub one_cell : (text : List ℕ) (c d : Cell) → Parses text c → Parses text d → c ≡ d
 one_cell text c d p q =
-    grammar.one_cell 64 64 q.words c d (subst (λ ws. Spells 64 ws c) (words_same text p.words q.words p.has q.has) p.spells) q.spells
+    one 64 64 q.words c d (subst (λ ws. Spells 64 ws c) (words_same text p.words q.words p.has q.has) p.spells) q.spells
 
 fault_never : (text : List ℕ) (e : ParseError) (c : Cell) → IsWordFault text e → Parses text c → ⊥
 fault_never text e c f p =

@@ -1,26 +1,16 @@
--- What a list of words comes to, as a text's laws need it.
+-- Words have at most one first fault, and none where they spell a cell.
 use Rattle.std.proofs.Common.{ℕ, ◌≡◌, List, Result, Ok, Err}
 use Rattle.nb_lexer.specs.declared.word.Word.{Word}
 use Rattle.nb_syntax.specs.declared.tree.Cell.{Cell}
 use Rattle.nb_grammar.specs.declared.fault.Fault.{Fault}
-use Rattle.nb_grammar.specs.Law.{Spells, IsFault, IsRead}
-use Rattle.nb_grammar.specs.Reading.{whole}
-use Rattle.nb_grammar.proofs.Viable.{parsed, only, one, one_result}
+use Rattle.nb_grammar.specs.Law.{Spells, IsFault}
+use Rattle.nb_grammar.proofs.Viable.{one_result}
 
 err_same : (e f : Fault) → (let r : Result Cell Fault = Err e in r ≡ Err f) → e ≡ f
 err_same e f h = cc
 
 ok_err : (c : Cell) (f : Fault) → (let r : Result Cell Fault = Ok c in r ≡ Err f) → ⊥
 ok_err c f h = cc
-
-pub read_is : (room : ℕ) (ws : List Word) → IsRead room ws (whole room ws)
-read_is = parsed
-
-pub spelled_read : (room : ℕ) (ws : List Word) (c : Cell) → Spells room ws c → whole room ws ≡ Ok c
-spelled_read room ws c spells = only room ws (Ok c) spells
-
-pub one_cell : (n k : ℕ) (ws : List Word) (c d : Cell) → Spells n ws c → Spells k ws d → c ≡ d
-one_cell = one
 
 pub one_fault : (room : ℕ) (ws : List Word) (e f : Fault) → IsFault room ws e → IsFault room ws f → e ≡ f
 one_fault room ws e f p q = err_same e f (one_result room ws (Err e) (Err f) p q)

@@ -14,7 +14,7 @@ use Rattle.nb_grammar.specs.declared.fault.Fault.{Fault}
 use Rattle.nb_grammar.specs.declared.fault.Fault.TheVariants as fault
 use Rattle.nb_grammar.specs.Reading.{whole}
 use Rattle.nb_grammar.specs.Law.{Splits, IsFault, IsRead}
-use Rattle.nb_parser.proofs.GrammarLaws as grammar
+use Rattle.nb_grammar.proofs.Viable.{parsed}
 use Rattle.nb_parser.specs.declared.error.ParseError.{ParseError}
 use Rattle.nb_parser.specs.declared.error.ParseError.TheVariants.{Lex, Unexpected, Ended, TooDeep}
 use Rattle.nb_parser.specs.Parse.{Parses, IsLeft, token_text, IsRefused}
@@ -54,6 +54,6 @@ read_answer text tokens words r (Err f) s = inr (fault_refused text tokens words
 pub has_answer : (text : List ℕ) → IsUtf8 text → HasAnswer text
 has_answer text u =
     elim (tokens.has_answer text u) [
-      | inl t ↦ read_answer text t.0 t.1.0 t.1.1 (whole 64 t.1.0) (grammar.read_is 64 t.1.0)
+      | inl t ↦ read_answer text t.0 t.1.0 t.1.1 (whole 64 t.1.0) (parsed 64 t.1.0)
       | inr f ↦ inr (Lex f.0, f.1)
     ]

@@ -49,6 +49,12 @@ stop {A} next k done ws f total e left =
     sym left.same
     ∙ ap (λ (y : Read (List A)). y >>= k) (bind_err (next ws) (λ x. onward x.0 (Ok (done, x.1)) (λ v. many next (length ws) (done ++ v ∷ []) x.1)) f e)
 
+-- a turn of a loop alone that stops at a fault
+pub rounds_stop : {A : Type 0} (next : List Word → Read (Option A)) (done : List A) (ws : List Word) (f : Fault) (total : Read (List A))
+    → next ws ≡ Err f → rounds next done ws ≡ total → total ≡ Err f
+rounds_stop next done ws f total e same =
+    sym same ∙ bind_err (next ws) (λ x. onward x.0 (Ok (done, x.1)) (λ v. many next (length ws) (done ++ v ∷ []) x.1)) f e
+
 -- ---- what a `?` hands on
 
 fails_on : {Y Z : Type 0} (s : Stop) (part : Result Z Fault) (read : Result Y Fault) → Fails s part

@@ -54,8 +54,8 @@ fn cell(alloc: Global, words: &[Word], room: u8) -> Result<(Cell, &[Word]), Stop
 {
     match words {
         [Word::Name(name), Word::Assign, rest @ ..] => {
-            let (body, rest) = body(alloc, rest, room)?;
             let name = Some(name.copy(alloc)?);
+            let (body, rest) = body(alloc, rest, room)?;
             Ok((Cell { name, body }, rest))
         }
         _ => {

@@ -1,22 +1,20 @@
 //! Expressions, by recursive descent: one function for a level, and `room`, the number of brackets that may still open.
 
-ghost use Rattle.std.specs.Prelude.{◌≡◌, ◌<◌, ◌≤◌, length, IfOk, IsSome};
-ghost use Rattle.nb_grammar.specs.Words.{called};
-ghost use Rattle.nb_grammar.specs.Reading.{Gives, inside_of, expr, choice, or, and, compare, sum, product, unary, postfix, step, primary, named, call, bracketed, items, pairs, pair, name, key};
+ghost use Rattle.std.specs.Prelude.{◌≡◌, ◌<◌, ◌≤◌, [], length, IfOk, IsSome};
+ghost use Rattle.nb_grammar.specs.Words.{called, product_sign, sum_sign};
+ghost use Rattle.nb_grammar.specs.Reading.{Gives, inside_of, rounds, expr, choice, or, or_part, and, and_part, compare, sum, product, operand, unary, postfix, step, primary, named, call, bracketed, items, pairs, pair, name, key};
 
 use crate::functions::function_of;
 use crate::marks::{
     after_and, after_comma, after_or, close_curly, close_round, close_square, colon, comma, enter,
     fault_at, key, name,
 };
-use crate::nodes::{
-    and_of, choose_of, compare_of, fetch_of, or_of, path_of, product_of, sum_of, unary_of,
-};
+use crate::nodes::{and_of, compare_of, fetch_of, or_of, path_of, product_of, sum_of, unary_of};
 use crate::operators::{compare_sign, product_sign, sum_sign};
 use nb_grammar::Stop;
 use nb_lexer::Word;
 use nb_syntax::{Expr, Member, Operand, PathStep, Sign};
-use nb_value::{Function, Items, Text};
+use nb_value::{Boxed, Function, Items, Text};
 use std::alloc::Global;
 
 /// An expression at the head of the words, and the words behind it.
@@ -38,9 +36,11 @@ fn choice(alloc: Global, test: Expr, words: &[Word], room: u8) -> Result<(Expr, 
     let [Word::Question, rest @ ..] = words else {
         return Ok((test, words));
     };
+    let test = Boxed::new(alloc, test)?;
     let (yes, rest) = or(alloc, rest, room)?;
+    let yes = Boxed::new(alloc, yes)?;
     let (no, rest) = or(alloc, colon(rest)?, room)?;
-    Ok((choose_of(alloc, test, yes, no)?, rest))
+    Ok((Expr::Choose(test, yes, Boxed::new(alloc, no)?), rest))
 }
 
 #[cycle(expressions)]
@@ -48,14 +48,25 @@ fn or(alloc: Global, words: &[Word], room: u8) -> Result<(Expr, &[Word]), Stop>
     ensures gives { Gives (λ x. (x.0, x.1.now)) result (or (inside_of room) words.now) }
     ensures shorter { IfOk result (λ x. length x.1.now ≤ length words.now) }
 {
-    let (first, mut rest) = and(alloc, words, room)?;
+    let (first, rest) = and(alloc, words, room)?;
+    let (more, rest) = or_parts(alloc, rest, room)?;
+    Ok((or_of(alloc, first, more)?, rest))
+}
+
+/// The parts at the head of the words, each behind its `||`.
+#[cycle(expressions)]
+fn or_parts(alloc: Global, words: &[Word], room: u8) -> Result<(Items<Expr>, &[Word]), Stop>
+    ensures gives { Gives (λ x. (x.0, x.1.now)) result (rounds (or_part (inside_of room)) [] words.now) }
+    ensures shorter { IfOk result (λ x. length x.1.now ≤ length words.now) }
+{
     let mut more = Items::new(alloc);
+    let mut rest = words;
     'parts: while let Some(behind) = after_or(rest) {
         let (part, behind) = and(alloc, behind, room)?;
         more.push(part)?;
         rest = behind;
     }
-    Ok((or_of(alloc, first, more)?, rest))
+    Ok((more, rest))
 }
 
 #[cycle(expressions)]
@@ -63,14 +74,25 @@ fn and(alloc: Global, words: &[Word], room: u8) -> Result<(Expr, &[Word]), Stop>
     ensures gives { Gives (λ x. (x.0, x.1.now)) result (and (inside_of room) words.now) }
     ensures shorter { IfOk result (λ x. length x.1.now ≤ length words.now) }
 {
-    let (first, mut rest) = comparison(alloc, words, room)?;
+    let (first, rest) = comparison(alloc, words, room)?;
+    let (more, rest) = and_parts(alloc, rest, room)?;
+    Ok((and_of(alloc, first, more)?, rest))
+}
+
+/// The parts at the head of the words, each behind its `&&`.
+#[cycle(expressions)]
+fn and_parts(alloc: Global, words: &[Word], room: u8) -> Result<(Items<Expr>, &[Word]), Stop>
+    ensures gives { Gives (λ x. (x.0, x.1.now)) result (rounds (and_part (inside_of room)) [] words.now) }
+    ensures shorter { IfOk result (λ x. length x.1.now ≤ length words.now) }
+{
     let mut more = Items::new(alloc);
+    let mut rest = words;
     'parts: while let Some(behind) = after_and(rest) {
         let (part, behind) = comparison(alloc, behind, room)?;
         more.push(part)?;
         rest = behind;
     }
-    Ok((and_of(alloc, first, more)?, rest))
+    Ok((more, rest))
 }
 
 #[cycle(expressions)]
@@ -91,14 +113,25 @@ fn sum(alloc: Global, words: &[Word], room: u8) -> Result<(Expr, &[Word]), Stop>
     ensures gives { Gives (λ x. (x.0, x.1.now)) result (sum (inside_of room) words.now) }
     ensures shorter { IfOk result (λ x. length x.1.now ≤ length words.now) }
 {
-    let (first, mut rest) = product(alloc, words, room)?;
+    let (first, rest) = product(alloc, words, room)?;
+    let (more, rest) = summands(alloc, rest, room)?;
+    Ok((sum_of(alloc, first, more)?, rest))
+}
+
+/// The products at the head of the words, each behind its `+` or `-`.
+#[cycle(expressions)]
+fn summands(alloc: Global, words: &[Word], room: u8) -> Result<(Items<Operand>, &[Word]), Stop>
+    ensures gives { Gives (λ x. (x.0, x.1.now)) result (rounds (operand sum_sign (product (inside_of room))) [] words.now) }
+    ensures shorter { IfOk result (λ x. length x.1.now ≤ length words.now) }
+{
     let mut more = Items::new(alloc);
+    let mut rest = words;
     'operands: while let Some((sign, behind)) = sum_sign(rest) {
         let (expr, behind) = product(alloc, behind, room)?;
         more.push(Operand { sign, expr })?;
         rest = behind;
     }
-    Ok((sum_of(alloc, first, more)?, rest))
+    Ok((more, rest))
 }
 
 #[cycle(expressions)]
@@ -106,14 +139,25 @@ fn product(alloc: Global, words: &[Word], room: u8) -> Result<(Expr, &[Word]), S
     ensures gives { Gives (λ x. (x.0, x.1.now)) result (product (inside_of room) words.now) }
     ensures shorter { IfOk result (λ x. length x.1.now ≤ length words.now) }
 {
-    let (first, mut rest) = unary(alloc, words, room)?;
+    let (first, rest) = unary(alloc, words, room)?;
+    let (more, rest) = factors(alloc, rest, room)?;
+    Ok((product_of(alloc, first, more)?, rest))
+}
+
+/// The factors at the head of the words, each behind its `*`, `/` or `%`.
+#[cycle(expressions)]
+fn factors(alloc: Global, words: &[Word], room: u8) -> Result<(Items<Operand>, &[Word]), Stop>
+    ensures gives { Gives (λ x. (x.0, x.1.now)) result (rounds (operand product_sign (unary (inside_of room))) [] words.now) }
+    ensures shorter { IfOk result (λ x. length x.1.now ≤ length words.now) }
+{
     let mut more = Items::new(alloc);
+    let mut rest = words;
     'operands: while let Some((sign, behind)) = product_sign(rest) {
         let (expr, behind) = unary(alloc, behind, room)?;
         more.push(Operand { sign, expr })?;
         rest = behind;
     }
-    Ok((product_of(alloc, first, more)?, rest))
+    Ok((more, rest))
 }
 
 #[cycle(expressions)]
@@ -139,13 +183,24 @@ fn postfix(alloc: Global, words: &[Word], room: u8) -> Result<(Expr, &[Word]), S
     ensures gives { Gives (λ x. (x.0, x.1.now)) result (postfix (inside_of room) words.now) }
     ensures shorter { IfOk result (λ x. length x.1.now ≤ length words.now) }
 {
-    let (root, mut rest) = primary(alloc, words, room)?;
+    let (root, rest) = primary(alloc, words, room)?;
+    let (steps, rest) = path_steps(alloc, rest, room)?;
+    Ok((path_of(alloc, root, steps)?, rest))
+}
+
+/// The steps at the head of the words.
+#[cycle(expressions)]
+fn path_steps(alloc: Global, words: &[Word], room: u8) -> Result<(Items<PathStep>, &[Word]), Stop>
+    ensures gives { Gives (λ x. (x.0, x.1.now)) result (rounds (step (inside_of room)) [] words.now) }
+    ensures shorter { IfOk result (λ x. length x.1.now ≤ length words.now) }
+{
     let mut steps = Items::new(alloc);
-    'steps: loop {
+    let mut rest = words;
+    'turns: loop {
         let (found, behind) = step(alloc, rest, room)?;
         match found {
             Some(step) => steps.push(step)?,
-            None => return Ok((path_of(alloc, root, steps)?, behind)),
+            None => return Ok((steps, behind)),
         }
         rest = behind;
     }
@@ -165,7 +220,8 @@ fn step(alloc: Global, words: &[Word], room: u8) -> Result<(Option<PathStep>, &[
         }
         [Word::OpenSquare, rest @ ..] => {
             let (index, rest) = expr(alloc, rest, enter(words, room)?)?;
-            Ok((Some(PathStep::At(index)), close_square(rest)?))
+            let rest = close_square(rest)?;
+            Ok((Some(PathStep::At(index)), rest))
         }
         _ => Ok((None, words)),
     }
@@ -204,7 +260,8 @@ pub fn bracketed(alloc: Global, words: &[Word], room: u8) -> Result<(Expr, &[Wor
         return Err(fault_at(words));
     };
     let (inner, rest) = expr(alloc, rest, enter(words, room)?)?;
-    Ok((inner, close_round(rest)?))
+    let rest = close_round(rest)?;
+    Ok((inner, rest))
 }
 
 /// What begins with a name, behind which the words stand: a call of a function, or the name itself.
@@ -245,7 +302,8 @@ fn call(
         args.push(arg)?;
         rest = behind;
     }
-    Ok((Expr::Call(function, args), close_round(rest)?))
+    let rest = close_round(rest)?;
+    Ok((Expr::Call(function, args), rest))
 }
 
 /// The items of a list, behind its opening bracket.
@@ -265,7 +323,8 @@ fn items(alloc: Global, words: &[Word], room: u8) -> Result<(Expr, &[Word]), Sto
         items.push(item)?;
         rest = behind;
     }
-    Ok((Expr::List(items), close_square(rest)?))
+    let rest = close_square(rest)?;
+    Ok((Expr::List(items), rest))
 }
 
 /// The pairs of a record, behind its opening bracket.
@@ -285,7 +344,8 @@ fn pairs(alloc: Global, words: &[Word], room: u8) -> Result<(Expr, &[Word]), Sto
         pairs.push(next)?;
         rest = behind;
     }
-    Ok((Expr::Rec(pairs), close_curly(rest)?))
+    let rest = close_curly(rest)?;
+    Ok((Expr::Rec(pairs), rest))
 }
 
 #[cycle(expressions)]

@@ -11,8 +11,6 @@ mod nodes;
 mod operators;
 mod parse;
 mod statements;
-#[cfg(test)]
-mod tests;
 
 pub use error::ParseError;
 pub use laws::{law_of_cells, law_of_printing};

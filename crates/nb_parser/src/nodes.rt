@@ -80,16 +80,6 @@ pub fn compare_of(alloc: Global, sign: Sign, left: Expr, right: Expr) -> Result<
     Ok(Expr::Compare(sign, left, right))
 }
 
-/// A choice between two parts.
-pub fn choose_of(alloc: Global, test: Expr, yes: Expr, no: Expr) -> Result<Expr, AllocError>
-    ensures { IfOk result (λ e. e ≡ tree.Choose test yes no) }
-{
-    let test = Boxed::new(alloc, test)?;
-    let yes = Boxed::new(alloc, yes)?;
-    let no = Boxed::new(alloc, no)?;
-    Ok(Expr::Choose(test, yes, no))
-}
-
 /// What is fetched under a key.
 pub fn fetch_of(alloc: Global, key: Expr) -> Result<Expr, AllocError>
     ensures { IfOk result (λ e. e ≡ tree.Fetch key) }

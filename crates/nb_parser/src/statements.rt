@@ -89,7 +89,8 @@ fn ended(alloc: Global, words: &[Word], room: u8) -> Result<(Expr, &[Word]), Sto
     ensures shorter { IfOk result (λ x. length x.1.now ≤ length words.now) }
 {
     let (value, rest) = expr(alloc, words, room)?;
-    Ok((value, semicolon(rest)?))
+    let rest = semicolon(rest)?;
+    Ok((value, rest))
 }
 
 /// An assignment, behind its name.
@@ -102,8 +103,10 @@ fn assignment<'a>(
     ensures gives { Gives (λ x. (x.0, x.1.now)) result (assignment (inside_of room) name.now words.now) }
     ensures shorter { IfOk result (λ x. length x.1.now ≤ length words.now) }
 {
-    let (value, rest) = ended(alloc, assign(words)?, room)?;
-    Ok((Stmt::Assign(name.copy(alloc)?, value), rest))
+    let rest = assign(words)?;
+    let name = name.copy(alloc)?;
+    let (value, rest) = ended(alloc, rest, room)?;
+    Ok((Stmt::Assign(name, value), rest))
 }
 
 /// What stands behind `let`.
@@ -228,5 +231,6 @@ fn each_of(alloc: Global, words: &[Word], room: u8) -> Result<(Text, Expr, &[Wor
 {
     let (name, rest) = name(alloc, let_word(words)?)?;
     let (list, rest) = expr(alloc, of_word(rest)?, room)?;
-    Ok((name, list, close_round(rest)?))
+    let rest = close_round(rest)?;
+    Ok((name, list, rest))
 }

@@ -18,9 +18,10 @@ impl Tree for Block {
 
 impl Tree for Arm {
     fn copy(&self, alloc: Global) -> Result<Arm, AllocError> {
+        let body = self.body.copy(alloc)?;
         Ok(Arm {
             test: self.test.copy(alloc)?,
-            body: self.body.copy(alloc)?,
+            body,
         })
     }
 
@@ -56,10 +57,9 @@ fn copy_arms(arms: &Items<Arm>, alloc: Global) -> Result<Items<Arm>, AllocError>
 {
     let mut copies = Items::new(alloc);
     for arm in arms.as_slice() {
-        copies.push(Arm {
-            test: arm.test.copy(alloc)?,
-            body: copy_block(&arm.body, alloc)?,
-        })?;
+        let body = copy_block(&arm.body, alloc)?;
+        let test = arm.test.copy(alloc)?;
+        copies.push(Arm { test, body })?;
     }
     Ok(copies)
 }
@@ -75,12 +75,15 @@ fn copy_stmt(stmt: &Stmt, alloc: Global) -> Result<Stmt, AllocError>
         Stmt::If(arms, Some(other)) => {
             Ok(Stmt::If(copy_arms(arms, alloc)?, Some(copy_block(other, alloc)?)))
         }
-        Stmt::While(test, body) => Ok(Stmt::While(test.copy(alloc)?, copy_block(body, alloc)?)),
-        Stmt::For(name, list, body) => Ok(Stmt::For(
-            name.copy(alloc)?,
-            list.copy(alloc)?,
-            copy_block(body, alloc)?,
-        )),
+        Stmt::While(test, body) => {
+            let body = copy_block(body, alloc)?;
+            Ok(Stmt::While(test.copy(alloc)?, body))
+        }
+        Stmt::For(name, list, body) => {
+            let name = name.copy(alloc)?;
+            let body = copy_block(body, alloc)?;
+            Ok(Stmt::For(name, list.copy(alloc)?, body))
+        }
         Stmt::Yield(value) => Ok(Stmt::Yield(value.copy(alloc)?)),
         Stmt::Return(value) => Ok(Stmt::Return(value.copy(alloc)?)),
         Stmt::Throw(value) => Ok(Stmt::Throw(value.copy(alloc)?)),

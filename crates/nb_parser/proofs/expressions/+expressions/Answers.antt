@@ -2,54 +2,54 @@
 use Rattle.std.proofs.Common.{◌≡◌, ◌∙◌, ap, sym, refl, ◌<◌, ℕ, suc, ◌+◌, ◌-◌, Ok, List, ◌∷◌, arith}
 use Rattle.nb_syntax.specs.declared.tree.Expr.TheVariants as tree
 use Rattle.nb_grammar.specs.Words.{sum_sign, product_sign}
-use Rattle.nb_grammar.specs.Reading.{◌>>=◌, product, unary, sum, expr, inside_of, compare_at, or_part, or_of, and_part, and_of, operand, sum_of, product_of, item, next_pair, close_square, close_curly}
-use Rattle.nb_grammar.proofs.Loops.{or_part_falls, and_part_falls, summand_falls, factor_falls, step_falls, item_falls, pair_falls}
-use Rattle.nb_parser.proofs.Turns.{turn, stop, bind_ok, bind_err, fails, or_at, and_at, item_at, pair_at, operand_at, compared_at, items_begin, pairs_begin, argument_turn, argument_comma, argument_stop}
+use Rattle.nb_grammar.specs.Reading.{◌>>=◌, product, unary, sum, expr, inside_of, compare_at, or_part, and_part, operand, item, next_pair, close_square, close_curly}
+use Rattle.nb_grammar.proofs.Loops.{rounds_turn, or_part_falls, and_part_falls, summand_falls, factor_falls, step_falls, item_falls, pair_falls}
+use Rattle.nb_parser.proofs.Turns.{turn, stop, rounds_stop, bind_ok, bind_err, fails, or_at, and_at, item_at, pair_at, operand_at, compared_at, items_begin, pairs_begin, argument_turn, argument_comma, argument_stop}
 use Rattle.nb_parser.proofs.expressions.+expressions.Goals as goal
 
-pub or-parts-preserved : goal.or-parts-preserved
-or-parts-preserved t c = record {
-  left = turn _ (or_part_falls c.args.room) _ c.parts.more _ c.parts.rest.now c.in_ok-part.behind.now _ _ _
-      (or_at (inside_of c.args.room) c.parts.rest.now c.in-Some.behind.now c.in-Some.ensures.value ∙ bind_ok _ _ _ c.in_ok-part.ensures.gives) refl c.in_ok-push.ensures.ok c.parts.invariant.left;
+pub or_parts-parts-preserved : goal.or_parts-parts-preserved
+or_parts-parts-preserved t c = record {
+  same = rounds_turn _ (or_part_falls c.args.room) c.parts.more _ c.parts.rest.now c.in_ok-part.behind.now _ _ _
+      (or_at (inside_of c.args.room) c.parts.rest.now c.in-Some.behind.now c.in-Some.ensures.value ∙ bind_ok _ _ _ c.in_ok-part.ensures.gives) refl c.in_ok-push.ensures.ok c.parts.invariant.same;
   within = omega (arith, c.in_ok-part.ensures.shorter, c.in-Some.ensures.shorter, c.parts.invariant.within);
 }
 
-pub or-returns-in_err-part-clause-gives : goal.or-returns-in_err-part-clause-gives
-or-returns-in_err-part-clause-gives t c = fails _ _ _ _ _ c.from_residual-in_err-part.ensures.1 c.in_err-part.ensures.gives (λ f is.
-    stop _ _ c.parts.more c.parts.rest.now f _ (or_at (inside_of c.args.room) c.parts.rest.now c.in-Some.behind.now c.in-Some.ensures.value ∙ bind_err _ _ f is) c.parts.invariant.left)
+pub or_parts-returns-in_err-part-clause-gives : goal.or_parts-returns-in_err-part-clause-gives
+or_parts-returns-in_err-part-clause-gives t c = fails _ _ _ _ _ c.from_residual.ensures.1 c.in_err-part.ensures.gives (λ f is.
+    rounds_stop (or_part (inside_of c.args.room)) c.parts.more c.parts.rest.now f _ (or_at (inside_of c.args.room) c.parts.rest.now c.in-Some.behind.now c.in-Some.ensures.value ∙ bind_err _ _ f is) c.parts.invariant.same)
 
-pub and-parts-preserved : goal.and-parts-preserved
-and-parts-preserved t c = record {
-  left = turn _ (and_part_falls c.args.room) _ c.parts.more _ c.parts.rest.now c.in_ok-part.behind.now _ _ _
-      (and_at (inside_of c.args.room) c.parts.rest.now c.in-Some.behind.now c.in-Some.ensures.value ∙ bind_ok _ _ _ c.in_ok-part.ensures.gives) refl c.in_ok-push.ensures.ok c.parts.invariant.left;
+pub and_parts-parts-preserved : goal.and_parts-parts-preserved
+and_parts-parts-preserved t c = record {
+  same = rounds_turn _ (and_part_falls c.args.room) c.parts.more _ c.parts.rest.now c.in_ok-part.behind.now _ _ _
+      (and_at (inside_of c.args.room) c.parts.rest.now c.in-Some.behind.now c.in-Some.ensures.value ∙ bind_ok _ _ _ c.in_ok-part.ensures.gives) refl c.in_ok-push.ensures.ok c.parts.invariant.same;
   within = omega (arith, c.in_ok-part.ensures.shorter, c.in-Some.ensures.shorter, c.parts.invariant.within);
 }
 
-pub and-returns-in_err-part-clause-gives : goal.and-returns-in_err-part-clause-gives
-and-returns-in_err-part-clause-gives t c = fails _ _ _ _ _ c.from_residual-in_err-part.ensures.1 c.in_err-part.ensures.gives (λ f is.
-    stop _ _ c.parts.more c.parts.rest.now f _ (and_at (inside_of c.args.room) c.parts.rest.now c.in-Some.behind.now c.in-Some.ensures.value ∙ bind_err _ _ f is) c.parts.invariant.left)
+pub and_parts-returns-in_err-part-clause-gives : goal.and_parts-returns-in_err-part-clause-gives
+and_parts-returns-in_err-part-clause-gives t c = fails _ _ _ _ _ c.from_residual.ensures.1 c.in_err-part.ensures.gives (λ f is.
+    rounds_stop (and_part (inside_of c.args.room)) c.parts.more c.parts.rest.now f _ (and_at (inside_of c.args.room) c.parts.rest.now c.in-Some.behind.now c.in-Some.ensures.value ∙ bind_err _ _ f is) c.parts.invariant.same)
 
-pub sum-operands-preserved : goal.sum-operands-preserved
-sum-operands-preserved t c = record {
-  left = turn _ (summand_falls c.args.room) _ c.operands.more _ c.operands.rest.now c.in_ok-expr.behind.now _ _ _
-      (operand_at sum_sign (product (inside_of c.args.room)) c.operands.rest.now c.in-Some.behind.now c.in-Some.sign c.in-Some.ensures.value ∙ bind_ok _ _ _ c.in_ok-expr.ensures.gives) refl c.in_ok-push.ensures.ok c.operands.invariant.left;
+pub summands-operands-preserved : goal.summands-operands-preserved
+summands-operands-preserved t c = record {
+  same = rounds_turn _ (summand_falls c.args.room) c.operands.more _ c.operands.rest.now c.in_ok-expr.behind.now _ _ _
+      (operand_at sum_sign (product (inside_of c.args.room)) c.operands.rest.now c.in-Some.behind.now c.in-Some.sign c.in-Some.ensures.value ∙ bind_ok _ _ _ c.in_ok-expr.ensures.gives) refl c.in_ok-push.ensures.ok c.operands.invariant.same;
   within = omega (arith, c.in_ok-expr.ensures.shorter, c.in-Some.ensures.shorter, c.operands.invariant.within);
 }
 
-pub sum-returns-in_err-expr-clause-gives : goal.sum-returns-in_err-expr-clause-gives
-sum-returns-in_err-expr-clause-gives t c = fails _ _ _ _ _ c.from_residual-in_err-expr.ensures.1 c.in_err-expr.ensures.gives (λ f is.
-    stop _ _ c.operands.more c.operands.rest.now f _ (operand_at sum_sign (product (inside_of c.args.room)) c.operands.rest.now c.in-Some.behind.now c.in-Some.sign c.in-Some.ensures.value ∙ bind_err _ _ f is) c.operands.invariant.left)
+pub summands-returns-in_err-expr-clause-gives : goal.summands-returns-in_err-expr-clause-gives
+summands-returns-in_err-expr-clause-gives t c = fails _ _ _ _ _ c.from_residual.ensures.1 c.in_err-expr.ensures.gives (λ f is.
+    rounds_stop (operand sum_sign (product (inside_of c.args.room))) c.operands.more c.operands.rest.now f _ (operand_at sum_sign (product (inside_of c.args.room)) c.operands.rest.now c.in-Some.behind.now c.in-Some.sign c.in-Some.ensures.value ∙ bind_err _ _ f is) c.operands.invariant.same)
 
-pub product-operands-preserved : goal.product-operands-preserved
-product-operands-preserved t c = record {
-  left = turn _ (factor_falls c.args.room) _ c.operands.more _ c.operands.rest.now c.in_ok-expr.behind.now _ _ _
-      (operand_at product_sign (unary (inside_of c.args.room)) c.operands.rest.now c.in-Some.behind.now c.in-Some.sign c.in-Some.ensures.value ∙ bind_ok _ _ _ c.in_ok-expr.ensures.gives) refl c.in_ok-push.ensures.ok c.operands.invariant.left;
+pub factors-operands-preserved : goal.factors-operands-preserved
+factors-operands-preserved t c = record {
+  same = rounds_turn _ (factor_falls c.args.room) c.operands.more _ c.operands.rest.now c.in_ok-expr.behind.now _ _ _
+      (operand_at product_sign (unary (inside_of c.args.room)) c.operands.rest.now c.in-Some.behind.now c.in-Some.sign c.in-Some.ensures.value ∙ bind_ok _ _ _ c.in_ok-expr.ensures.gives) refl c.in_ok-push.ensures.ok c.operands.invariant.same;
   within = omega (arith, c.in_ok-expr.ensures.shorter, c.in-Some.ensures.shorter, c.operands.invariant.within);
 }
 
-pub product-returns-in_err-expr-clause-gives : goal.product-returns-in_err-expr-clause-gives
-product-returns-in_err-expr-clause-gives t c = fails _ _ _ _ _ c.from_residual-in_err-expr.ensures.1 c.in_err-expr.ensures.gives (λ f is.
-    stop _ _ c.operands.more c.operands.rest.now f _ (operand_at product_sign (unary (inside_of c.args.room)) c.operands.rest.now c.in-Some.behind.now c.in-Some.sign c.in-Some.ensures.value ∙ bind_err _ _ f is) c.operands.invariant.left)
+pub factors-returns-in_err-expr-clause-gives : goal.factors-returns-in_err-expr-clause-gives
+factors-returns-in_err-expr-clause-gives t c = fails _ _ _ _ _ c.from_residual.ensures.1 c.in_err-expr.ensures.gives (λ f is.
+    rounds_stop (operand product_sign (unary (inside_of c.args.room))) c.operands.more c.operands.rest.now f _ (operand_at product_sign (unary (inside_of c.args.room)) c.operands.rest.now c.in-Some.behind.now c.in-Some.sign c.in-Some.ensures.value ∙ bind_err _ _ f is) c.operands.invariant.same)
 
 pub items-more-preserved : goal.items-more-preserved
 items-more-preserved t c = record {
@@ -87,11 +87,11 @@ pairs-more-init t c = record {
   within = c.in_ok-first.ensures.shorter;
 }
 
-pub postfix-steps-preserved : goal.postfix-steps-preserved
-postfix-steps-preserved t c = record {
-  left = turn _ (step_falls c.args.room) _ c.steps.steps _ c.steps.rest.now c.in_ok-found.behind.now _ _ _ c.in_ok-found.ensures.gives c.in-Some.is
-      c.in_ok-push-in-Some.ensures.ok c.steps.invariant.left;
-  within = omega (arith, c.in_ok-found.ensures.shorter, c.steps.invariant.within);
+pub path_steps-turns-preserved : goal.path_steps-turns-preserved
+path_steps-turns-preserved t c = record {
+  same = rounds_turn _ (step_falls c.args.room) c.turns.steps _ c.turns.rest.now c.in_ok-found.behind.now _ _ _ c.in_ok-found.ensures.gives c.in-Some.is
+      c.in_ok-push-in-Some.ensures.ok c.turns.invariant.same;
+  within = omega (arith, c.in_ok-found.ensures.shorter, c.turns.invariant.within);
 }
 
 pub call-loop-preserved : goal.call-loop-preserved

@@ -3,105 +3,120 @@ use Rattle.std.proofs.Common.{◌≡◌, ◌≤◌, length, [], ◌∷◌, Ok, �
 use Rattle.nb_value.specs.Function.{arity}
 use Rattle.nb_syntax.specs.declared.tree.Expr.TheVariants as tree
 use Rattle.nb_grammar.specs.Words.{product_sign, sum_sign}
-use Rattle.nb_grammar.specs.Reading.{◌>>=◌, arguments, operand, inside_of, expr, or, or_part, or_of, and, and_part, and_of, sum, sum_of, product, product_of, unary, postfix, step, path_of, call, item, items, next_pair, pairs, close_round, close_square, close_curly}
+use Rattle.nb_grammar.specs.Reading.{◌>>=◌, rounds, arguments, operand, inside_of, expr, or_part, and_part, product, unary, step, call, item, items, next_pair, pairs, close_round, close_square, close_curly}
 use Rattle.nb_parser.proofs.Turns.{Left}
 use Rattle.nb_parser.proofs.expressions.+expressions.Given as goal
 
 abbrev pub decreases-pairs : goal.decreases-pairs
-decreases-pairs l = 16 * l.room + 15
+decreases-pairs l = 32 * l.room + 25
 
 abbrev pub decreases-pair : goal.decreases-pair
-decreases-pair l = 16 * l.room + 14
+decreases-pair l = 32 * l.room + 24
 
 abbrev pub decreases-items : goal.decreases-items
-decreases-items l = 16 * l.room + 14
+decreases-items l = 32 * l.room + 24
 
 abbrev pub decreases-call : goal.decreases-call
-decreases-call l = 16 * l.room + 14
+decreases-call l = 32 * l.room + 24
 
 abbrev pub decreases-expr : goal.decreases-expr
-decreases-expr l = 16 * l.room + 13
+decreases-expr l = 32 * l.room + 23
 
 abbrev pub decreases-choice : goal.decreases-choice
-decreases-choice l = 16 * l.room + 12
+decreases-choice l = 32 * l.room + 22
 
 abbrev pub decreases-or : goal.decreases-or
-decreases-or l = 16 * l.room + 11
+decreases-or l = 32 * l.room + 21
+
+abbrev pub decreases-or_parts : goal.decreases-or_parts
+decreases-or_parts l = 32 * l.room + 20
 
 abbrev pub decreases-and : goal.decreases-and
-decreases-and l = 16 * l.room + 10
+decreases-and l = 32 * l.room + 19
+
+abbrev pub decreases-and_parts : goal.decreases-and_parts
+decreases-and_parts l = 32 * l.room + 18
 
 abbrev pub decreases-comparison : goal.decreases-comparison
-decreases-comparison l = 16 * l.room + 9
+decreases-comparison l = 32 * l.room + 17
 
 abbrev pub decreases-sum : goal.decreases-sum
-decreases-sum l = 16 * l.room + 8
+decreases-sum l = 32 * l.room + 16
+
+abbrev pub decreases-summands : goal.decreases-summands
+decreases-summands l = 32 * l.room + 15
 
 abbrev pub decreases-product : goal.decreases-product
-decreases-product l = 16 * l.room + 7
+decreases-product l = 32 * l.room + 14
+
+abbrev pub decreases-factors : goal.decreases-factors
+decreases-factors l = 32 * l.room + 13
 
 abbrev pub decreases-unary : goal.decreases-unary
-decreases-unary l = 16 * l.room + 6
+decreases-unary l = 32 * l.room + 12
 
 abbrev pub decreases-postfix : goal.decreases-postfix
-decreases-postfix l = 16 * l.room + 5
+decreases-postfix l = 32 * l.room + 10
+
+abbrev pub decreases-path_steps : goal.decreases-path_steps
+decreases-path_steps l = 32 * l.room + 9
 
 abbrev pub decreases-step : goal.decreases-step
-decreases-step l = 16 * l.room + 4
+decreases-step l = 32 * l.room + 8
 
 abbrev pub decreases-primary : goal.decreases-primary
-decreases-primary l = 16 * l.room + 4
+decreases-primary l = 32 * l.room + 8
 
 abbrev pub decreases-named : goal.decreases-named
-decreases-named l = 16 * l.room + 3
+decreases-named l = 32 * l.room + 6
 
 abbrev pub decreases-bracketed : goal.decreases-bracketed
-decreases-bracketed l = 16 * l.room + 3
+decreases-bracketed l = 32 * l.room + 6
 
-abbrev pub invariant-or-parts : goal.invariant-or-parts
-invariant-or-parts l = record {
-  left : Left (or_part (inside_of l.room)) (λ m. Ok (or_of l.first m.0, m.1)) l.more l.rest (or (inside_of l.room) l.words);
+abbrev pub invariant-or_parts-parts : goal.invariant-or_parts-parts
+invariant-or_parts-parts l = record {
+  same : rounds (or_part (inside_of l.room)) l.more l.rest ≡ rounds (or_part (inside_of l.room)) [] l.words;
   within : length l.rest ≤ length l.words;
 }
 
-abbrev pub decreases-or-parts : goal.decreases-or-parts
-decreases-or-parts l = length l.rest
+abbrev pub decreases-or_parts-parts : goal.decreases-or_parts-parts
+decreases-or_parts-parts l = length l.rest
 
-abbrev pub invariant-and-parts : goal.invariant-and-parts
-invariant-and-parts l = record {
-  left : Left (and_part (inside_of l.room)) (λ m. Ok (and_of l.first m.0, m.1)) l.more l.rest (and (inside_of l.room) l.words);
+abbrev pub invariant-and_parts-parts : goal.invariant-and_parts-parts
+invariant-and_parts-parts l = record {
+  same : rounds (and_part (inside_of l.room)) l.more l.rest ≡ rounds (and_part (inside_of l.room)) [] l.words;
   within : length l.rest ≤ length l.words;
 }
 
-abbrev pub decreases-and-parts : goal.decreases-and-parts
-decreases-and-parts l = length l.rest
+abbrev pub decreases-and_parts-parts : goal.decreases-and_parts-parts
+decreases-and_parts-parts l = length l.rest
 
-abbrev pub invariant-sum-operands : goal.invariant-sum-operands
-invariant-sum-operands l = record {
-  left : Left (operand sum_sign (product (inside_of l.room))) (λ m. Ok (sum_of l.first m.0, m.1)) l.more l.rest (sum (inside_of l.room) l.words);
+abbrev pub invariant-summands-operands : goal.invariant-summands-operands
+invariant-summands-operands l = record {
+  same : rounds (operand sum_sign (product (inside_of l.room))) l.more l.rest ≡ rounds (operand sum_sign (product (inside_of l.room))) [] l.words;
   within : length l.rest ≤ length l.words;
 }
 
-abbrev pub decreases-sum-operands : goal.decreases-sum-operands
-decreases-sum-operands l = length l.rest
+abbrev pub decreases-summands-operands : goal.decreases-summands-operands
+decreases-summands-operands l = length l.rest
 
-abbrev pub invariant-product-operands : goal.invariant-product-operands
-invariant-product-operands l = record {
-  left : Left (operand product_sign (unary (inside_of l.room))) (λ m. Ok (product_of l.first m.0, m.1)) l.more l.rest (product (inside_of l.room) l.words);
+abbrev pub invariant-factors-operands : goal.invariant-factors-operands
+invariant-factors-operands l = record {
+  same : rounds (operand product_sign (unary (inside_of l.room))) l.more l.rest ≡ rounds (operand product_sign (unary (inside_of l.room))) [] l.words;
   within : length l.rest ≤ length l.words;
 }
 
-abbrev pub decreases-product-operands : goal.decreases-product-operands
-decreases-product-operands l = length l.rest
+abbrev pub decreases-factors-operands : goal.decreases-factors-operands
+decreases-factors-operands l = length l.rest
 
-abbrev pub invariant-postfix-steps : goal.invariant-postfix-steps
-invariant-postfix-steps l = record {
-  left : Left (step (inside_of l.room)) (λ m. Ok (path_of l.root m.0, m.1)) l.steps l.rest (postfix (inside_of l.room) l.words);
+abbrev pub invariant-path_steps-turns : goal.invariant-path_steps-turns
+invariant-path_steps-turns l = record {
+  same : rounds (step (inside_of l.room)) l.steps l.rest ≡ rounds (step (inside_of l.room)) [] l.words;
   within : length l.rest ≤ length l.words;
 }
 
-abbrev pub decreases-postfix-steps : goal.decreases-postfix-steps
-decreases-postfix-steps l = length l.rest
+abbrev pub decreases-path_steps-turns : goal.decreases-path_steps-turns
+decreases-path_steps-turns l = length l.rest
 
 abbrev pub invariant-items-more : goal.invariant-items-more
 invariant-items-more l = record {

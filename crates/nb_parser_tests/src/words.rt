@@ -1,11 +1,7 @@
-//! The tokens of texts that are known, and the first faults.
-use crate::fault::LexError;
-use crate::laws::{law_of_tokens, law_of_written_words};
-use crate::lexer::tokens;
-use crate::name::is_name;
-use crate::token::{Token, TokenKind};
-use crate::word::Word;
-use crate::word_list::words;
+//! The tokens of texts, or their first faults, and the words that the tokens are.
+use nb_lexer::{
+    Token, TokenKind, Word, is_name, law_of_tokens, law_of_written_words, tokens, words,
+};
 use std::alloc::Global;
 use std::test::Fail;
 
@@ -37,29 +33,30 @@ fn texts() -> [(&'static str, &'static str); 16] {
     ]
 }
 
-// Texts, with the name and the place of their first fault.
-fn faults() -> [(&'static str, LexError); 20] {
+// Texts, with their first faults.
+fn faults() -> [(&'static str, &'static str); 21] {
     [
-        ("x = #", LexError::BadCharacter(4)),
-        ("x = \"a", LexError::OpenText(4)),
-        ("x = \"\\q\"", LexError::BadEscape(5)),
-        ("007", LexError::BadCharacter(1)),
-        ("9223372036854775808", LexError::TooWide(0)),
-        ("99999999999999999999x", LexError::TooWide(0)),
-        ("1a", LexError::BadCharacter(1)),
-        ("12_", LexError::BadCharacter(2)),
-        ("0$", LexError::BadCharacter(1)),
-        ("x & y", LexError::BadCharacter(2)),
-        ("|", LexError::BadCharacter(0)),
-        ("&&&", LexError::BadCharacter(2)),
-        ("\"a\u{1}", LexError::BadCharacter(2)),
-        ("\"a\n\"", LexError::BadCharacter(2)),
-        ("\"a\\", LexError::OpenText(0)),
-        ("\"", LexError::OpenText(0)),
-        ("\"\\\u{e9}", LexError::BadEscape(1)),
-        ("\"\\u0041\"", LexError::BadEscape(1)),
-        ("x = \u{e9}", LexError::BadCharacter(4)),
-        ("# 99999999999999999999", LexError::BadCharacter(0)),
+        ("x = #", "BadCharacter(4)"),
+        ("x = \"a", "OpenText(4)"),
+        ("x = \"\\q\"", "BadEscape(5)"),
+        ("007", "BadCharacter(1)"),
+        ("9223372036854775808", "TooWide(0)"),
+        ("99999999999999999999x", "TooWide(0)"),
+        ("1a", "BadCharacter(1)"),
+        ("12_", "BadCharacter(2)"),
+        ("0$", "BadCharacter(1)"),
+        ("x & y", "BadCharacter(2)"),
+        ("|", "BadCharacter(0)"),
+        ("&&&", "BadCharacter(2)"),
+        ("\"a\u{1}", "BadCharacter(2)"),
+        ("\"a\n\"", "BadCharacter(2)"),
+        ("\"a\tb\"", "BadCharacter(2)"),
+        ("\"a\\", "OpenText(0)"),
+        ("\"", "OpenText(0)"),
+        ("\"\\\u{e9}", "BadEscape(1)"),
+        ("\"\\u0041\"", "BadEscape(1)"),
+        ("x = \u{e9}", "BadCharacter(4)"),
+        ("# 99999999999999999999", "BadCharacter(0)"),
     ]
 }
 
@@ -99,23 +96,13 @@ fn listing(alloc: Global, text: &str) -> Result<String, Fail> {
 }
 
 #[test]
-fn finds_the_tokens(rt: HostRuntime) -> Result<(), Fail> {
+fn finds_tokens_or_the_first_fault(rt: HostRuntime) -> Result<(), Fail> {
     let alloc = rt.alloc();
     for (text, all) in texts() {
-        let found = listing(alloc, text)?;
-        assert_eq!(rt; found.as_str(), all);
+        assert_eq!(rt; listing(alloc, text)?.as_str(), all);
     }
-    Ok(())
-}
-
-#[test]
-fn finds_the_first_fault(rt: HostRuntime) -> Result<(), Fail> {
-    let alloc = rt.alloc();
     for (text, fault) in faults() {
-        match tokens(alloc, text) {
-            Ok(_) => return Err("no fault".into()),
-            Err(error) => assert_eq!(rt; error, fault),
-        }
+        assert_eq!(rt; listing(alloc, text)?.as_str(), fault);
     }
     Ok(())
 }
@@ -124,15 +111,10 @@ fn finds_the_first_fault(rt: HostRuntime) -> Result<(), Fail> {
 fn tells_keywords_from_names(rt: HostRuntime) -> Result<(), Fail> {
     let alloc = rt.alloc();
     for keyword in keywords() {
+        let end = keyword.len();
+        let all = format!(in alloc; "keyword 0 {end};")?;
+        assert_eq!(rt; listing(alloc, keyword)?.as_str(), all.as_str());
         assert!(rt; !is_name(keyword));
-        let Ok(found) = tokens(alloc, keyword) else {
-            return Err("refused".into());
-        };
-        let [token] = found.as_slice() else {
-            return Err("no single token".into());
-        };
-        assert!(rt; matches!(token.kind, TokenKind::Keyword));
-        assert_eq!(rt; token.end, keyword.len());
     }
     assert!(rt; is_name("$lets_9"));
     assert!(rt; !is_name("") && !is_name("9a") && !is_name("a b") && !is_name("\u{e9}"));
