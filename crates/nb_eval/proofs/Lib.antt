@@ -1,6 +1,7 @@
 pub mod Laws
 mod Turns
 mod Lasts
+mod IndexLemmas
 mod Calls
 pub mod Closed
 pub mod Yields

@@ -1,4 +1,5 @@
 pub mod Locals
+pub mod LocalsIndex
 pub mod Run
 pub mod Operate
 pub mod Evaluation

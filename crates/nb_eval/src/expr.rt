@@ -8,7 +8,7 @@ ghost use Rattle.nb_eval.specs.Evaluation.{eval, member, path_part, operand, par
 use crate::call::call;
 use crate::effects::ask;
 use crate::given::Segment;
-use crate::locals::read;
+use crate::names::read;
 use crate::operate::{compared, product_step, signed, sum_step};
 use crate::path::{field_of, part_of};
 use crate::state::State;

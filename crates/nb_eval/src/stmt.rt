@@ -8,7 +8,7 @@ ghost use Rattle.nb_eval.specs.Evaluation.{eval, choose, ran, loop, each, in_ord
 use crate::effects::{cleaned, thrown, yielded};
 use crate::expr::eval_expr;
 use crate::given::Segment;
-use crate::locals::{assign, keep};
+use crate::names::{assign, keep};
 use crate::state::State;
 use crate::steps::{as_items, as_truth, charge_statement};
 use crate::stop::Stop;
