@@ -114,7 +114,7 @@ IsIndexed-fewer ls l outers outer old new h sets =
     record {
       places = λ name. sets name ∙ ap (λ o. if bytes_eq l.name name then outer else o) (h.places name ∙ place-snoc name ls l)
           ∙ chosen (bytes_eq l.name name) outer (Some (length ls)) (last_place name (names ls)) (last_place name (names ls))
-              (λ b. same.1 ∙ ap (λ n. last_place n (names ls)) ((bytes_eq-Decides l.name name).0 b)) refl;
+          (λ b. same.1 ∙ ap (λ n. last_place n (names ls)) ((bytes_eq-Decides l.name name).0 b)) refl;
       shadows = same.0;
     }
 

@@ -2,6 +2,7 @@ pub mod Laws
 mod Turns
 mod Lasts
 mod IndexLemmas
+mod InputLemmas
 mod Calls
 pub mod Closed
 pub mod Yields

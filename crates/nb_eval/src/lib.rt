@@ -8,6 +8,7 @@ mod effects;
 mod expr;
 mod finished;
 mod given;
+mod inputs;
 mod law;
 mod locals;
 mod names;

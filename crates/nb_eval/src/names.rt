@@ -4,6 +4,7 @@ ghost use Rattle.std.specs.Prelude.{◌≡◌, ◌≢◌};
 ghost use Rattle.nb_eval.specs.Run.{Meets, Quiet, read, keep, assign};
 
 use crate::given::Segment;
+use crate::inputs::input_of;
 use crate::state::State;
 use crate::steps::failure_with;
 use crate::stop::Stop;
@@ -17,7 +18,7 @@ pub fn read(alloc: Global, given: &Segment, state: &State, name: &Text) -> Resul
     if let Some(local) = state.locals.local_of(name.as_str()) {
         return Ok(local.value.copy(alloc)?);
     }
-    if let Some(value) = given.inputs.get(name.as_str()) {
+    if let Some(value) = input_of(&given.inputs, name.as_str()) {
         return Ok(value.copy(alloc)?);
     }
     Ok(Value::Null)

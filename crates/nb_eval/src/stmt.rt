@@ -1,4 +1,5 @@
-//! Statements. Each call takes time in proportion to what it charges, and stack that grows with the depth of the tree.
+//! Statements. Each call takes time in proportion to what it charges, up to a logarithm, and stack that grows with the
+//! depth of the tree.
 
 ghost use Rattle.std.specs.Prelude.{◌≡◌, ◌≢◌, map, OnOk};
 ghost use Rattle.std.specs.Option.{option_map};
