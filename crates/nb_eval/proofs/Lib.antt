@@ -3,6 +3,7 @@ mod Turns
 mod Lasts
 mod IndexLemmas
 mod InputLemmas
+mod MemberLemmas
 mod Calls
 pub mod Closed
 pub mod Yields

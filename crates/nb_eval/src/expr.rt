@@ -9,6 +9,7 @@ ghost use Rattle.nb_eval.specs.Evaluation.{eval, member, path_part, operand, par
 use crate::call::call;
 use crate::effects::ask;
 use crate::given::Segment;
+use crate::members::Members;
 use crate::names::read;
 use crate::operate::{compared, product_step, signed, sum_step};
 use crate::path::{field_of, part_of};
@@ -94,12 +95,12 @@ fn eval_members(
     ensures gives { Meets result state.new (members [] (map (member given.now) list.now) state.old) }
     ensures spends { OnOk result (SpendsAtMost given.now state.old state.new) }
 {
-    let mut fields = Pairs::new(alloc);
+    let mut fields = Members::new(alloc);
     for part in list.as_slice() {
         let value = eval_expr(&part.value, alloc, given, state)?;
-        fields.put(part.key.copy(alloc)?, value)?;
+        fields.put(alloc, &part.key, value)?;
     }
-    Ok(fields)
+    Ok(fields.into_pairs(alloc)?)
 }
 
 #[cycle(eval)]

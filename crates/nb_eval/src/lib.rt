@@ -11,6 +11,7 @@ mod given;
 mod inputs;
 mod law;
 mod locals;
+mod members;
 mod names;
 mod operate;
 mod path;
