@@ -1,6 +1,9 @@
 pub mod Laws
 mod Turns
 mod Lasts
+mod IndexLemmas
+mod InputLemmas
+mod MemberLemmas
 mod Calls
 pub mod Closed
 pub mod Yields

@@ -1,4 +1,6 @@
 pub mod Locals
+pub mod LocalsIndex
+pub mod Members
 pub mod Run
 pub mod Operate
 pub mod Evaluation

@@ -1,4 +1,5 @@
-//! Expressions. Each call takes time in proportion to what it charges, and stack that grows with the depth of the tree.
+//! Expressions. Each call takes time in proportion to what it charges, up to a logarithm, and stack that grows with the
+//! depth of the tree.
 
 ghost use Rattle.std.specs.Prelude.{◌≡◌, ◌≢◌, [], map, OnOk};
 ghost use Rattle.nb_eval.specs.Run.{Meets, HasRoom, Spends, SpendsAtMost};
@@ -8,7 +9,8 @@ ghost use Rattle.nb_eval.specs.Evaluation.{eval, member, path_part, operand, par
 use crate::call::call;
 use crate::effects::ask;
 use crate::given::Segment;
-use crate::locals::read;
+use crate::members::Members;
+use crate::names::read;
 use crate::operate::{compared, product_step, signed, sum_step};
 use crate::path::{field_of, part_of};
 use crate::state::State;
@@ -93,12 +95,12 @@ fn eval_members(
     ensures gives { Meets result state.new (members [] (map (member given.now) list.now) state.old) }
     ensures spends { OnOk result (SpendsAtMost given.now state.old state.new) }
 {
-    let mut fields = Pairs::new(alloc);
+    let mut fields = Members::new(alloc);
     for part in list.as_slice() {
         let value = eval_expr(&part.value, alloc, given, state)?;
-        fields.put(part.key.copy(alloc)?, value)?;
+        fields.put(alloc, &part.key, value)?;
     }
-    Ok(fields)
+    Ok(fields.into_pairs(alloc)?)
 }
 
 #[cycle(eval)]

@@ -16,8 +16,9 @@ use nb_syntax::{Body, is_generator};
 use nb_value::{ErrorKind, Items, Value};
 use std::alloc::{AllocError, Global};
 
-/// The evaluation of a segment, by replay from its start. It takes time and memory in proportion to what the
-/// evaluation charges. Where memory ran out, the segment comes back.
+/// The evaluation of a segment, by replay from its start. It takes memory in proportion to what the evaluation charges,
+/// and time in proportion to that, up to a logarithm: of the number of names, or in `sort` of the number of items.
+/// Where memory ran out, the segment comes back.
 pub fn evaluate(alloc: Global, segment: Segment) -> Result<Finished, (Segment, AllocError)>
     ensures { MatchResult result (λ f. f.segment ≡ segment) (λ e. e.0 ≡ segment) }
 {

@@ -1,8 +1,8 @@
 ghost use Rattle.std.specs.Prelude.{◌≡◌};
 ghost use Rattle.nb_eval.specs.Run.{start_state};
 
-use crate::stack::Stack;
-use nb_value::{Field, Items, Value};
+use crate::locals::Locals;
+use nb_value::{Items, Value};
 use std::alloc::Global;
 
 /// The fuel of a pull.
@@ -16,7 +16,7 @@ pub struct State {
     /// How many charges were made, with one that failed.
     pub charges: u64,
     /// The locals that hold, in the order in which they were made.
-    pub locals: Stack<Field<Value>>,
+    pub locals: Locals,
     /// How many answers were taken.
     pub taken: usize,
     /// How many fetches were made in this pull.
@@ -35,7 +35,7 @@ impl State {
         State {
             fuel: FULL_FUEL,
             charges: 0,
-            locals: Stack::new(alloc),
+            locals: Locals::new(alloc),
             taken: 0,
             fetches: 0,
             yields: Items::new(alloc),

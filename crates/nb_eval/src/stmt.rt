@@ -1,4 +1,5 @@
-//! Statements. Each call takes time in proportion to what it charges, and stack that grows with the depth of the tree.
+//! Statements. Each call takes time in proportion to what it charges, up to a logarithm, and stack that grows with the
+//! depth of the tree.
 
 ghost use Rattle.std.specs.Prelude.{◌≡◌, ◌≢◌, map, OnOk};
 ghost use Rattle.std.specs.Option.{option_map};
@@ -8,7 +9,7 @@ ghost use Rattle.nb_eval.specs.Evaluation.{eval, choose, ran, loop, each, in_ord
 use crate::effects::{cleaned, thrown, yielded};
 use crate::expr::eval_expr;
 use crate::given::Segment;
-use crate::locals::{assign, keep};
+use crate::names::{assign, keep};
 use crate::state::State;
 use crate::steps::{as_items, as_truth, charge_statement};
 use crate::stop::Stop;

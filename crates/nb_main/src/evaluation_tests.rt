@@ -33,7 +33,10 @@ const fn ends(cell: &'static str, ending: &'static str) -> Row {
     }
 }
 
-fn errors() -> [Row; 30] {
+/// The first 200 characters of a text of 256, of two bytes each.
+const CUT: &str = "Failed Thrown éééééééééééééééééééééééééééééééééééééééééééééééééééééééééééééééééééééééééééééééééééééééééééééééééééééééééééééééééééééééééééééééééééééééééééééééééééééééééééééééééééééééééééééééééééééééééééééééééééééééé";
+
+fn errors() -> [Row; 32] {
     [
         ends("1 + true", "Failed WrongKind +"),
         ends("1 - \"a\"", "Failed WrongKind -"),
@@ -65,10 +68,18 @@ fn errors() -> [Row; 30] {
         ends("{ while (true) {} }", "Failed OutOfFuel "),
         ends("[1 / 0, true + 1]", "Failed ZeroDivisor /"),
         ends("[true + 1, 1 / 0]", "Failed WrongKind +"),
+        ends(
+            "{ let l = []; for (let b of range(0, 64)) { l = [l]; } }",
+            "Failed TooLarge depth",
+        ),
+        ends(
+            "{ let t = \"é\"; for (let b of range(0, 8)) { t = t + t; } throw t; }",
+            CUT,
+        ),
     ]
 }
 
-fn values() -> [Row; 24] {
+fn values() -> [Row; 25] {
     [
         ends("-7 / 2", "Done -3"),
         ends("-7 % 2", "Done -1"),
@@ -99,6 +110,10 @@ fn values() -> [Row; 24] {
             "Done 10000",
         ),
         ends("{ let b = 1; }", "Done null"),
+        ends(
+            "{ let l = []; for (let b of range(0, 63)) { l = [l]; } }",
+            "Done null",
+        ),
         ends("len(range(0, 999992))", "Done 999992"),
         ends("len(range(0, 999993))", "Failed OutOfFuel "),
         ends("range(0, 16384)", "Failed TooLarge value"),
@@ -109,7 +124,7 @@ fn values() -> [Row; 24] {
 /// As many answers as a pull may take.
 const ANSWERS: [&str; 64] = ["1"; 64];
 
-fn fetches() -> [Row; 3] {
+fn fetches() -> [Row; 5] {
     [
         Row {
             answers: &ANSWERS,
@@ -126,6 +141,17 @@ fn fetches() -> [Row; 3] {
             )
         },
         ends("[fetch(\"k\"), fetch(\"l\")]", "Needs k"),
+        Row {
+            answers: &["5"],
+            ..ends(
+                "{ let t = \"k\"; for (let b of range(0, 10)) { t = t + t; } return fetch(slice(t, 1, 1024)); }",
+                "Done 5",
+            )
+        },
+        ends(
+            "{ let t = \"k\"; for (let b of range(0, 10)) { t = t + t; } return fetch(t); }",
+            "Failed TooLarge fetch",
+        ),
     ]
 }
 

@@ -1,0 +1,31 @@
+use Rattle.std.proofs.Common.{◌≡◌, ◌∙◌, ◌<◌, sym, ap, subst₂, map, length, slice_get, slice_set, Some, arith}
+use Rattle.std.proofs.lemmas.List.{length-map}
+use Rattle.nb_value.specs.Fields.{names}
+use Rattle.nb_eval.specs.declared.locals.Local.{Local}
+use Rattle.nb_eval.specs.Locals.{name_value, place}
+use Rattle.nb_eval.specs.LocalsIndex.{IsIndexed}
+use Rattle.nb_eval.proofs.IndexLemmas.{place-last, named, names-set, within}
+use Rattle.nb_eval.proofs.locals.Locals.set.Goals as goal
+
+pub write-requires : goal.write-requires
+write-requires c =
+    let name = c.args.name.now in
+    let list = map (λ (l : Local). l.field) c.self.inside.list.items in
+    let there = named name (names list) c.args.at (sym (place-last name list) ∙ ap (place name) c.self.view_is ∙ c.requires) in
+    let below = within list c.args.at name there in
+    omega (arith, below, length-map c.self.inside.list.items (λ (l : Local). l.field))
+
+pub invariant_of-self : goal.invariant_of-self
+invariant_of-self c =
+    let name = c.args.name.now in
+    let list = map (λ (l : Local). l.field) c.self.inside.list.items in
+    let there = named name (names list) c.args.at (sym (place-last name list) ∙ ap (place name) c.self.view_is ∙ c.requires) in
+    let same = ap names (c.write.ensures.fields name there) ∙ names-set list c.args.at name c.args.value there in
+    subst₂ (λ ns os. IsIndexed ns os c.self.inside.index) (sym same) (sym c.write.ensures.outers) c.self.invariant
+
+pub returns : goal.returns
+returns c =
+    let name = c.args.name.now in
+    let list = map (λ (l : Local). l.field) c.self.inside.list.items in
+    let there = named name (names list) c.args.at (sym (place-last name list) ∙ ap (place name) c.self.view_is ∙ c.requires) in
+    c.write.ensures.fields name there ∙ ap (λ ls. slice_set ls c.args.at (name_value name c.args.value)) c.self.view_is

@@ -1,0 +1,14 @@
+-- The locals up to here, with their index.
+use Rattle.std.proofs.Common.{◌≡◌, length, map, take}
+use Rattle.nb_value.specs.Fields.{names}
+use Rattle.nb_eval.specs.LocalsIndex.{IsIndexed}
+use Rattle.nb_eval.proofs.locals.cut.Given as goal
+
+abbrev pub invariant-loop-list : goal.invariant-loop-list
+invariant-loop-list l = record {
+  indexed : IsIndexed (names (map (λ l. l.field) l.list.items)) (map (λ l. l.outer) l.list.items) l.index;
+  front : take l.len l.list.items ≡ take l.len l.fn.list.items;
+}
+
+abbrev pub decreases-loop-list : goal.decreases-loop-list
+decreases-loop-list l = length l.list.items

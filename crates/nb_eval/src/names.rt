@@ -1,0 +1,49 @@
+//! Names: locals and inputs.
+
+ghost use Rattle.std.specs.Prelude.{◌≡◌, ◌≢◌};
+ghost use Rattle.nb_eval.specs.Run.{Meets, Quiet, read, keep, assign};
+
+use crate::given::Segment;
+use crate::inputs::input_of;
+use crate::state::State;
+use crate::steps::failure_with;
+use crate::stop::Stop;
+use nb_value::{ErrorKind, Field, Text, Value};
+use std::alloc::Global;
+
+/// A copy of the value of a name, in time linear in it, after the look-up of the name.
+pub fn read(alloc: Global, given: &Segment, state: &State, name: &Text) -> Result<Value, Stop>
+    ensures { Meets result state.now (read given.now name.now state.now) }
+{
+    if let Some(local) = state.locals.local_of(name.as_str()) {
+        return Ok(local.value.copy(alloc)?);
+    }
+    if let Some(value) = input_of(&given.inputs, name.as_str()) {
+        return Ok(value.copy(alloc)?);
+    }
+    Ok(Value::Null)
+}
+
+/// A new local, whose value is moved into it. Where memory runs out the state stays as it was.
+pub fn keep(alloc: Global, state: &mut State, name: &Text, value: Value) -> Result<(), Stop>
+    ensures gives { Meets result state.new (keep name.now value state.old) }
+    ensures quiet { Quiet state.old state.new }
+    ensures memory { result ≡ Err Stop.Memory → state.new ≡ state.old }
+{
+    let name = name.copy(alloc)?;
+    state.locals.push(alloc, Field { name, value })?;
+    Ok(())
+}
+
+/// Moves a value into the innermost local of a name. It takes no memory but for an error.
+pub fn assign(alloc: Global, state: &mut State, name: &Text, value: Value) -> Result<(), Stop>
+    ensures gives { Meets result state.new (assign name.now value state.old) }
+    ensures quiet { Quiet state.old state.new }
+    ensures memory { result ≡ Err Stop.Memory → state.new ≡ state.old }
+{
+    let Some(at) = state.locals.place(name.as_str()) else {
+        return Err(failure_with(alloc, ErrorKind::Unassigned, name));
+    };
+    state.locals.set(at, name.as_str(), value);
+    Ok(())
+}
