@@ -15,8 +15,6 @@ mod ranges;
 mod records;
 mod slices;
 mod sums;
-#[cfg(test)]
-mod tests;
 mod texts;
 
 pub use call::apply;

@@ -4,8 +4,6 @@
 mod form;
 mod lines;
 mod script;
-#[cfg(test)]
-mod tests;
 
 pub use lines::read_lines;
 pub use script::{BadReason, LineFail, ScriptLine, Scripts};

@@ -11,8 +11,6 @@ mod object;
 mod piece;
 mod size;
 mod table;
-#[cfg(test)]
-mod tests;
 mod tree;
 
 pub use entry::{Entry, Refusal};

@@ -4,8 +4,6 @@
 mod input;
 mod names;
 mod resolution;
-#[cfg(test)]
-mod tests;
 
 pub use input::Input;
 pub use names::{inputs, inputs_where, is_duplicate, resolve, variables};

@@ -8,8 +8,6 @@ mod refused;
 mod row;
 mod rows;
 mod sheet;
-#[cfg(test)]
-mod tests;
 mod tree;
 
 pub use edit::Edit;

@@ -1,10 +1,7 @@
 //! The lines and the sizes of a few entries, and each call of the log.
-use crate::entry::{Entry, Refusal};
-use crate::event::{Event, Target};
-use crate::lines::push_entries;
-use crate::log::Log;
-use crate::size::entry_size;
-use crate::table::{push_done_line, push_table_line};
+use nb_log::{
+    Entry, Event, Log, Refusal, Target, entry_size, push_done_line, push_entries, push_table_line,
+};
 use nb_value::{Answer, Bytes, CellError, ErrorKind, Items, Outcome, Text, Tree, Value};
 use std::alloc::{AllocError, Global};
 use std::mem::drop;

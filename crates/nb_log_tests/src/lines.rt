@@ -1,6 +1,5 @@
 //! What is read, and where the first line is that is not.
-use crate::lines::read_lines;
-use crate::script::{LineFail, ScriptLine, Scripts};
+use nb_lines::{LineFail, ScriptLine, Scripts, read_lines};
 use nb_log::Event;
 use nb_sheet::Edit;
 use nb_syntax::{Body, Cell, Expr, Sign};

@@ -1,7 +1,5 @@
 //! Edits of a sheet, and the reasons against them.
-use crate::edit::Edit;
-use crate::row::BodyOf;
-use crate::sheet::Sheet;
+use nb_sheet::{BodyOf, Edit, Sheet};
 use nb_syntax::{Body, Cell, Expr};
 use nb_value::{Pairs, Text};
 use std::alloc::{AllocError, Global};

@@ -1,5 +1,5 @@
 //! Calls of each function at values that were worked out by hand.
-use crate::{ApplyFail, apply};
+use nb_builtins::{ApplyFail, apply};
 use nb_value::{Function, Items, Text, Value};
 use std::alloc::{AllocError, Global};
 use std::test::Fail;

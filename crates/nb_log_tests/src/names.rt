@@ -1,6 +1,5 @@
 //! What names stand for, and what variables rest on.
-use crate::names::{inputs, is_duplicate, resolve};
-use crate::resolution::Resolution;
+use nb_resolve::{Resolution, inputs, is_duplicate, resolve};
 use nb_sheet::{Edit, Sheet};
 use nb_syntax::{Body, Cell, Expr};
 use nb_value::{Pairs, Text, Value};
