@@ -1,8 +1,9 @@
 //! What is read, and where the first line is that is not.
-use nb_lines::{LineFail, ScriptLine, Scripts, read_lines};
+use nb_lines::{LineFail, Scripts, read_lines};
 use nb_log::Event;
 use nb_sheet::Edit;
-use nb_syntax::{Body, Cell, Expr, Sign};
+use nb_syntax::print;
+use nb_value::Text;
 use std::alloc::Global;
 use std::mem::drop;
 use std::test::Fail;
@@ -105,48 +106,46 @@ fn finds_the_first_line_that_is_not_read(rt: HostRuntime) -> Result<(), Fail> {
     Ok(())
 }
 
-// Whether the cell is `x = 1 + 2`.
-fn is_sum(cell: &Cell) -> bool {
-    let named = match &cell.name {
-        Some(name) => name.as_str() == "x",
-        None => false,
-    };
-    match &cell.body {
-        Body::Expr(Expr::Sum(first, more)) => {
-            let second = more.as_slice().iter().all(|operand| operand.sign == Sign::Plus
-                && matches!(operand.expr, Expr::Int(2)));
-            named && matches!(first.get(), Expr::Int(1)) && more.len() == 1 && second
+// The text of the cell that an edit adds to module 0, observed.
+fn text_of_edit(alloc: Global, edit: &Edit) -> Result<Text, Fail> {
+    match edit {
+        Edit::AddCell {
+            module: within,
+            cell,
+            observed,
+        } => {
+            if *within == 0 && *observed {
+                Ok(print(alloc, cell)?)
+            } else {
+                Err("another place".into())
+            }
         }
-        _ => false,
+        _ => Err("another edit".into()),
     }
 }
 
-// Whether it is one line of editor 0, which adds the sum to module 0.
-fn adds_sum(scripts: &Scripts) -> bool {
-    match scripts.as_slice() {
-        [
-            ScriptLine {
-                editor: 0,
-                event: Event::Edit(
-                    Edit::AddCell {
-                        module: 0,
-                        cell,
-                        observed: true,
-                    },
-                ),
-            },
-        ] => is_sum(cell),
-        _ => false,
+// The same of the one line, which is editor 0's.
+fn text_of(alloc: Global, scripts: &Scripts) -> Result<Text, Fail> {
+    let [line] = scripts.as_slice() else {
+        return Err("another number of lines".into());
+    };
+    if line.editor != 0 {
+        return Err("another editor".into());
+    }
+    match &line.event {
+        Event::Edit(edit) => text_of_edit(alloc, edit),
+        _ => Err("another event".into()),
     }
 }
 
 #[test]
 fn reads_the_cell(rt: HostRuntime) -> Result<(), Fail> {
-    match read_lines(rt.alloc(), GOOD.as_bytes()) {
+    let alloc = rt.alloc();
+    match read_lines(alloc, GOOD.as_bytes()) {
         Ok(scripts) => {
-            let right = adds_sum(&scripts);
+            let text = text_of(alloc, &scripts);
             drop(scripts);
-            assert!(rt; right);
+            assert_eq!(rt; text?.as_str(), "x = 1 + 2");
             Ok(())
         }
         Err(_) => Err("refused".into()),
