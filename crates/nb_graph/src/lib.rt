@@ -4,7 +4,5 @@
 mod graph;
 mod ranks;
 mod reach;
-#[cfg(test)]
-mod tests;
 
 pub use graph::Graph;

@@ -12,8 +12,8 @@ use Rattle.nb_sheet.specs.Lists.{from_option, option_then}
 use Rattle.nb_history.specs.Reading.{Reading, Start, start_of, shown, owed}
 use Rattle.nb_history.specs.Rules.{evaluation, deciding_error, footing}
 use Rattle.nb_history.specs.Log.{nothing_yet, after, read_from, Fits, LegalFrom, cleanups_now, change_start, showing, asking, ending_now, answering, settle, ticket_var, new_start}
-use Rattle.nb_history.specs.Starts.{starts}
-use Rattle.nb_history.specs.Cleanups.{is_outcome, cleanups_at, Records, recorded_too, records_from, last_or, put_together, of_start, disposed_by, disposed, CleansUpOnce}
+use Rattle.nb_history.specs.Starts.{starts, is_notice_of}
+use Rattle.nb_history.specs.Cleanups.{Records, recorded_too, records_from, last_or, put_together, of_start, disposed_by, disposed, CleansUpOnce}
 use Rattle.nb_log.specs.declared.entry.Entry.{Entry}
 use Rattle.nb_log.specs.declared.entry.Entry.TheVariants.{Edit, Frame, Settled, Late, Loaded, Refused, Rest, Dispose, Pending, Fulfilled, Rejected, Asked, Ended, Left}
 use Rattle.nb_history.proofs.Closing.{due_has, leaving_has}
@@ -69,13 +69,6 @@ outcome_step false true d ds end now was here later s o none same h =
 abbrev owed_in : Option Start → List Value
 owed_in o = from_option [] (λ (s : Start). s.owed) o
 
-cleanups_are : (r : Reading) (v : ℕ) → cleanups_now r v ≡ cleanups_at r v
-cleanups_are r v = go (deciding_error r (shown r) v)
-  where
-    go : (o : Option CellError) → cond (is_some o) [] (Evaluated.cleanups (evaluation r (shown r) v)) ≡ from_option (Evaluated.cleanups (evaluation r (shown r) v)) (λ (e : CellError). []) o
-    go None = refl
-    go (Some e) = refl
-
 -- a change by which what is owed stays
 stays : (r : Reading) (u v : ℕ) (f : Start → Start) → ((s : Start) → (f s).owed ≡ s.owed) → owed_in (start_of (change_start r u f) v) ≡ owed r v
 stays r u v f keeps = changed_part owed_in r u v f (part (start_of r u))
@@ -85,9 +78,9 @@ stays r u v f keeps = changed_part owed_in r u v f (part (start_of r u))
     part (Some s) = keeps s
 
 -- of an outcome's variable
-outcome_owed : (r : Reading) (v : ℕ) (f : Start → Start) → ((s : Start) → (f s).owed ≡ cleanups_now r v) → Runs r v → owed_in (start_of (change_start r v f) v) ≡ cleanups_at r v
+outcome_owed : (r : Reading) (v : ℕ) (f : Start → Start) → ((s : Start) → (f s).owed ≡ cleanups_now r v) → Runs r v → owed_in (start_of (change_start r v f) v) ≡ cleanups_now r v
 outcome_owed r v f is runs =
-    ap owed_in (changed_itself r v f ∙ ap (λ (o : Option Start). option_then o (λ s. Some (f s))) runs.there) ∙ is runs.start ∙ cleanups_are r v
+    ap owed_in (changed_itself r v f ∙ ap (λ (o : Option Start). option_then o (λ s. Some (f s))) runs.there) ∙ is runs.start
 
 -- ---- an entry of v, and one of another variable
 
@@ -97,30 +90,30 @@ Balanced r v es = Accounts (disposed v es) (owed (read_from r es) v) (owed r v) 
 
 module _ (r : Reading) (v : ℕ) (es : List Entry) where
   -- an entry that isn't v's `pending`, `left` or outcome, and leaves what v owes
-  aside : (e : Entry) → starts v e ≡ false → is_outcome v e ≡ false → disposed_by v e ≡ [] → owed (after r e) v ≡ owed r v
+  aside : (e : Entry) → starts v e ≡ false → is_notice_of v e ≡ false → disposed_by v e ≡ [] → owed (after r e) v ≡ owed r v
       → Balanced (after r e) v es → Balanced r v (e ∷ es)
   aside e s o d same h =
-      other_step (starts v e) (is_outcome v e) (disposed_by v e) (disposed v es) (owed (read_from (after r e) es) v) (owed (after r e) v) (owed r v) (cleanups_at r v) (records_from (after r e) v es) s o d same h
+      other_step (starts v e) (is_notice_of v e) (disposed_by v e) (disposed v es) (owed (read_from (after r e) es) v) (owed (after r e) v) (owed r v) (cleanups_now r v) (records_from (after r e) v es) s o d same h
 
   -- v's outcome
-  outcome : (e : Entry) → starts v e ≡ false → is_outcome v e ≡ true → disposed_by v e ≡ [] → owed (after r e) v ≡ cleanups_at r v
+  outcome : (e : Entry) → starts v e ≡ false → is_notice_of v e ≡ true → disposed_by v e ≡ [] → owed (after r e) v ≡ cleanups_now r v
       → Balanced (after r e) v es → Balanced r v (e ∷ es)
   outcome e s o d same h =
-      outcome_step (starts v e) (is_outcome v e) (disposed_by v e) (disposed v es) (owed (read_from (after r e) es) v) (owed (after r e) v) (owed r v) (cleanups_at r v) (records_from (after r e) v es) s o d same h
+      outcome_step (starts v e) (is_notice_of v e) (disposed_by v e) (disposed v es) (owed (read_from (after r e) es) v) (owed (after r e) v) (owed r v) (cleanups_now r v) (records_from (after r e) v es) s o d same h
 
   -- an outcome of u, which changes its start by f
-  of_change : (e : Entry) (u : ℕ) (f : Start → Start) → starts v e ≡ false → is_outcome v e ≡ (u == v) → disposed_by v e ≡ []
+  of_change : (e : Entry) (u : ℕ) (f : Start → Start) → starts v e ≡ false → is_notice_of v e ≡ (u == v) → disposed_by v e ≡ []
       → start_of (after r e) v ≡ start_of (change_start r u f) v → ((s : Start) → (f s).owed ≡ cleanups_now r u) → Fits r e
       → Balanced (after r e) v es → Balanced r v (e ∷ es)
   of_change e u f s o d same is fits h =
       elim (cases_eq u v) [
         | inl eq ↦
-            let here : is_outcome v e ≡ true = o ∙ eq-eqb u v eq in
+            let here : is_notice_of v e ≡ true = o ∙ eq-eqb u v eq in
             let is_v : (s : Start) → (f s).owed ≡ cleanups_now r v = λ s. is s ∙ ap (cleanups_now r) eq in
             let at_v : start_of (change_start r u f) v ≡ start_of (change_start r v f) v = ap (λ (x : ℕ). start_of (change_start r x f) v) eq in
             outcome e s here d (ap owed_in (same ∙ at_v) ∙ outcome_owed r v f is_v (ready_runs r v (outcome_ready r e v here fits))) h
         | inr other ↦
-            let o_other : is_outcome v e ≡ false = o ∙ ne_eqb u v other in
+            let o_other : is_notice_of v e ≡ false = o ∙ ne_eqb u v other in
             aside e s o_other d (ap owed_in (same ∙ changed_other r u v f other)) h
       ]
 
@@ -131,9 +124,9 @@ not_idle r v idle runs = none-some runs.start (sym idle ∙ runs.there)
 
 pub idle_records : (r : Reading) (v : ℕ) (es : List Entry) → start_of r v ≡ None → LegalFrom r es → (records_from r v es).0 ≡ []
 idle_records r v [] idle legal = refl
-idle_records r v (e ∷ es) idle legal = go (starts v e) refl (is_outcome v e) refl (λ p. idle_records (after r e) v es (idle_after r e v p idle) legal.1)
+idle_records r v (e ∷ es) idle legal = go (starts v e) refl (is_notice_of v e) refl (λ p. idle_records (after r e) v es (idle_after r e v p idle) legal.1)
   where
-    go : (s : Bool) → starts v e ≡ s → (o : Bool) → is_outcome v e ≡ o → (starts v e ≡ false → (records_from (after r e) v es).0 ≡ []) → (recorded_too s o (cleanups_at r v) (records_from (after r e) v es)).0 ≡ []
+    go : (s : Bool) → starts v e ≡ s → (o : Bool) → is_notice_of v e ≡ o → (starts v e ≡ false → (records_from (after r e) v es).0 ≡ []) → (recorded_too s o (cleanups_now r v) (records_from (after r e) v es)).0 ≡ []
     go true p o q on = refl
     go false p true q on = absurd (not_idle r v idle (ready_runs r v (outcome_ready r e v q legal.0)))
     go false p false q on = on p
@@ -149,7 +142,7 @@ module _ (r : Reading) (v : ℕ) (es : List Entry) (sound : Sound r) where
             let started : start_of (after r (Pending u d)) u ≡ Some (new_start (r.entries + 1) (footing r u)) = start_put r.starts u (Some (new_start (r.entries + 1) (footing r u))) here.0 here.1 in
             let none : owed (after r (Pending u d)) v ≡ [] = ap (owed (after r (Pending u d))) (sym same) ∙ ap owed_in started in
             let is : (u == v) ≡ true = eq-eqb u v same in
-            start_step (u == v) false (cond (u == v) d []) (disposed v es) (owed (read_from (after r (Pending u d)) es) v) (owed (after r (Pending u d)) v) (owed r v) (cleanups_at r v)
+            start_step (u == v) false (cond (u == v) d []) (disposed v es) (owed (read_from (after r (Pending u d)) es) v) (owed (after r (Pending u d)) v) (owed r v) (cleanups_now r v)
             (records_from (after r (Pending u d)) v es) is (ap (λ (b : Bool). cond b d []) is ∙ fits.1 ∙ ap (owed r) same) none h
         | inr other ↦
             let isnt : (u == v) ≡ false = ne_eqb u v other in
@@ -165,7 +158,7 @@ module _ (r : Reading) (v : ℕ) (es : List Entry) (sound : Sound r) where
             let gone : start_of (after r (Left u d)) u ≡ None = start_put r.starts u None here.0 here.1 in
             let gone_v : start_of (after r (Left u d)) v ≡ None = ap (start_of (after r (Left u d))) (sym same) ∙ gone in
             let is : (u == v) ≡ true = eq-eqb u v same in
-            left_step false false (cond (u == v) d []) (disposed v es) (owed (read_from (after r (Left u d)) es) v) (owed (after r (Left u d)) v) (owed r v) (cleanups_at r v)
+            left_step false false (cond (u == v) d []) (disposed v es) (owed (read_from (after r (Left u d)) es) v) (owed (after r (Left u d)) v) (owed r v) (cleanups_now r v)
             (records_from (after r (Left u d)) v es) refl refl (ap (λ (b : Bool). cond b d []) is ∙ fits.1 ∙ ap (owed r) same) (ap owed_in gone_v)
             (idle_records (after r (Left u d)) v es gone_v legal) h
         | inr other ↦

@@ -10,7 +10,8 @@ use Rattle.nb_sheet.specs.Lists.{nth, from_option, option_then}
 use Rattle.nb_history.specs.Reading.{Reading, Start, start_of, number}
 use Rattle.nb_history.specs.Rules.{ready, generates, body_of, answers_of, pulls_of}
 use Rattle.nb_history.specs.Log.{after, read_from, reading, change_start, showing, asking, ending_now, answering, ticket_var, settle, shows_value, is_live, Fits, LegalFrom, IsLegal}
-use Rattle.nb_history.specs.Parked.{is_notice_of, NoNoticeOf, AskGoesOn, ValueGoesOn}
+use Rattle.nb_history.specs.Starts.{is_notice_of}
+use Rattle.nb_history.specs.Parked.{NoNoticeOf, AskGoesOn, ValueGoesOn}
 use Rattle.nb_log.specs.Printing.{entry_size}
 use Rattle.nb_log.specs.declared.entry.Entry.{Entry}
 use Rattle.nb_log.specs.declared.entry.Entry.TheVariants.{Edit, Frame, Settled, Late, Loaded, Refused, Rest, Dispose, Pending, Fulfilled, Rejected, Asked, Ended, Left}

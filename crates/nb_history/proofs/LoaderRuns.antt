@@ -17,7 +17,8 @@ use Rattle.nb_history.specs.Reading.{Reading, Ticket}
 use Rattle.nb_history.specs.Rules.{ready, next}
 use Rattle.nb_history.specs.Log.{nothing_yet, after, admit, is_live}
 use Rattle.nb_history.specs.Serial.{least_var, closing, next_of_ready, Todo, line_step, loader_ticket, loaded_step, outer_step, may_load, to_load, first_step, SerialFrom}
-use Rattle.nb_history.specs.Loaders.{Loader, keys_of, argv_of, argv_for, is_zero, GivesOutput, IsAnswerOf, answer_in, answers_in, AreRuns}
+use Rattle.nb_eval.specs.Operate.{is_zero}
+use Rattle.nb_history.specs.Loaders.{Loader, keys_of, argv_of, argv_for, GivesOutput, IsAnswerOf, answer_in, answers_in, AreRuns}
 use Rattle.nb_history.specs.Starts.{is_of_variable}
 use Rattle.nb_history.specs.Ends.{Programs, AreTold, runs_of, AnswerIsOne, AnswersAreIn}
 use Rattle.nb_log.specs.declared.event.Event.{Event}

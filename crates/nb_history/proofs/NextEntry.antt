@@ -15,7 +15,7 @@ use Rattle.nb_history.specs.Log.{after, showing, asking, ending_now, Fits, IsQui
 use Rattle.nb_log.specs.declared.entry.Entry.{Entry}
 use Rattle.nb_log.specs.declared.entry.Entry.TheVariants.{Fulfilled, Rejected, Asked, Ended}
 use Rattle.std.proofs.lemmas.Bool.{false≢true, eqb-true}
-use Rattle.nb_history.specs.Cleanups.{is_outcome}
+use Rattle.nb_history.specs.Starts.{is_notice_of}
 use Rattle.nb_history.proofs.StartsAfter.{Runs, running_start}
 use Rattle.nb_history.proofs.Lawful.{ready_parts}
 use Rattle.nb_history.proofs.Between.{Keeps}
@@ -48,7 +48,7 @@ pub ready_runs : (r : Reading) (v : ℕ) → ready r v ≡ true → Runs r v
 ready_runs r v h = running_start r v (ready_parts r v h).running
 
 -- each `asked`, `fulfilled`, `rejected` or `ended` is of a ready variable
-pub outcome_ready : (r : Reading) (e : Entry) (v : ℕ) → is_outcome v e ≡ true → Fits r e → ready r v ≡ true
+pub outcome_ready : (r : Reading) (e : Entry) (v : ℕ) → is_notice_of v e ≡ true → Fits r e → ready r v ≡ true
 outcome_ready r (Fulfilled u x) v h fits = subst (λ (w : ℕ). ready r w ≡ true) (eqb-true u v h) fits.1
 outcome_ready r (Rejected u e) v h fits = subst (λ (w : ℕ). ready r w ≡ true) (eqb-true u v h) fits.1
 outcome_ready r (Asked u t key) v h fits = subst (λ (w : ℕ). ready r w ≡ true) (eqb-true u v h) fits.1

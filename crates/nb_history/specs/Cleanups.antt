@@ -9,20 +9,8 @@ use Rattle.nb_log.specs.declared.entry.Entry.{Entry}
 use Rattle.nb_log.specs.declared.entry.Entry.TheVariants.{Pending, Fulfilled, Rejected, Asked, Ended, Left}
 use Rattle.nb_history.specs.Reading.{Reading, shown, owed}
 use Rattle.nb_history.specs.Rules.{evaluation, deciding_error}
-use Rattle.nb_history.specs.Log.{nothing_yet, after, reading, IsLegal}
-use Rattle.nb_history.specs.Starts.{starts}
-
--- v's `asked`, `fulfilled`, `rejected` or `ended`
-abbrev pub is_outcome : ℕ → Entry → Bool
-is_outcome v (Asked u t key) = u == v
-is_outcome v (Fulfilled u x) = u == v
-is_outcome v (Rejected u e) = u == v
-is_outcome v (Ended u) = u == v
-is_outcome v e = false
-
--- the cleanups of v's evaluation; none where an error decides before any
-abbrev pub cleanups_at : Reading → ℕ → List Value
-cleanups_at r v = from_option (Evaluated.cleanups (evaluation r (shown r) v)) (λ (e : CellError). []) (deciding_error r (shown r) v)
+use Rattle.nb_history.specs.Log.{nothing_yet, after, reading, cleanups_now, IsLegal}
+use Rattle.nb_history.specs.Starts.{starts, is_notice_of}
 
 -- the cleanups at each of v's `asked`, `fulfilled`, `rejected` and `ended` entries:
 -- of those before v's next start, and then of those of each start, in order
@@ -37,7 +25,7 @@ recorded_too false false cleanups later = later
 
 abbrev pub records_from : Reading → ℕ → List Entry → Records
 records_from r v [] = ([], [])
-records_from r v (e ∷ es) = recorded_too (starts v e) (is_outcome v e) (cleanups_at r v) (records_from (after r e) v es)
+records_from r v (e ∷ es) = recorded_too (starts v e) (is_notice_of v e) (cleanups_now r v) (records_from (after r e) v es)
 
 -- of each start of v
 abbrev pub records : List (Field Value) → List Entry → ℕ → List (List (List Value))

@@ -7,6 +7,7 @@ use Rattle.nb_value.specs.declared.value.Value.{Value}
 use Rattle.nb_value.specs.declared.outcome.Answer.{Answer}
 use Rattle.nb_value.specs.declared.outcome.Answer.TheVariants.{Value as Given, Failure}
 use Rattle.nb_value.specs.Json.{IsJsonOf, FitsLimits}
+use Rattle.nb_eval.specs.Operate.{is_zero}
 use Rattle.nb_io.specs.declared.spawner.ChildRun.{ChildRun}
 use Rattle.nb_io.specs.declared.spawner.ChildEnd.{ChildEnd}
 use Rattle.nb_io.specs.declared.spawner.SpawnFail.{SpawnFail}
@@ -40,10 +41,6 @@ argv_for loaders r t = option_then (nth r.tickets t) (λ (k : Ticket). argv_of l
 -- an output may have so many bytes
 abbrev pub output_limit : ℕ
 output_limit = 65536
-
-abbrev pub is_zero : ℤ → Bool
-is_zero (pos n) = nat_eq n 0
-is_zero (negsuc n) = false
 
 -- the value that an output is the JSON of, within the limits of values, and a failure where it is of none
 abbrev pub GivesOutput : List ℕ → Answer → Type 0

@@ -10,6 +10,7 @@ use Rattle.nb_resolve.specs.Names.{inputs}
 use Rattle.nb_history.specs.Reading.{Reading, shown, number}
 use Rattle.nb_history.specs.Rules.{ready, is_behind, deciding_error, marked_error, body_of, values_given, answers_of, pulls_of}
 use Rattle.nb_history.specs.Log.{reading, read_from, IsLegal, LegalFrom}
+use Rattle.nb_history.specs.Starts.{is_notice_of}
 
 -- the same error decides of v, or none, and without a mark it is the same body over the same input values
 abbrev pub EvaluatesAlike : Reading → Reading → ℕ → Type 0
@@ -25,14 +26,6 @@ ReadyKeepsInputs =
     → ready (reading builtins log) v ≡ true → number (read_from (reading builtins log) es) v ≡ number (reading builtins log) v
     → is_behind (read_from (reading builtins log) es) v ≡ false
     → EvaluatesAlike (reading builtins log) (read_from (reading builtins log) es) v
-
--- a notice of v
-abbrev pub is_notice_of : ℕ → Entry → Bool
-is_notice_of v (Fulfilled u x) = u == v
-is_notice_of v (Rejected u d) = u == v
-is_notice_of v (Asked u t key) = u == v
-is_notice_of v (Ended u) = u == v
-is_notice_of v e = false
 
 abbrev pub NoNoticeOf : ℕ → List Entry → Type 0
 NoNoticeOf v [] = ⊤

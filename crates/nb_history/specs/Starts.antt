@@ -37,6 +37,14 @@ abbrev pub AllOfVariables : List Entry → Type 0
 AllOfVariables [] = ⊤
 AllOfVariables (e ∷ es) = (is_of_variable e ≡ true) × AllOfVariables es
 
+-- a notice of v: its `asked`, `fulfilled`, `rejected` or `ended`
+abbrev pub is_notice_of : ℕ → Entry → Bool
+is_notice_of v (Fulfilled u x) = u == v
+is_notice_of v (Rejected u d) = u == v
+is_notice_of v (Asked u t key) = u == v
+is_notice_of v (Ended u) = u == v
+is_notice_of v e = false
+
 -- v's `pending`
 abbrev pub starts : ℕ → Entry → Bool
 starts v (Pending u d) = u == v

@@ -1,5 +1,4 @@
-ghost use Rattle.std.specs.Prelude.{◌≤◌, length};
-ghost use Rattle.nb_main.specs.Outcome.{limit, IsAnswer};
+ghost use Rattle.nb_main.specs.Outcome.{IsAnswer};
 
 use crate::history::history;
 use nb_lines::{LineFail, read_lines};
@@ -12,7 +11,6 @@ pub const LIMIT: usize = 4_194_304;
 
 /// What is written for these bytes, or their first fault.
 pub fn answer(alloc: Global, bytes: &[u8]) -> Result<Bytes, LineFail>
-    requires { length bytes.now ≤ limit }
     ensures { IsAnswer bytes.now result }
 {
     let lines = read_lines(alloc, bytes)?;

@@ -56,8 +56,4 @@ fn words_of<R: Env + AllocGlobal>(rt: &R) -> Result<Words, AllocError> {
 #[cfg(test)]
 mod cell_tests;
 #[cfg(test)]
-mod core_tests;
-#[cfg(test)]
-mod evaluation_tests;
-#[cfg(test)]
 mod tests;

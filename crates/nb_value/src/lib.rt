@@ -13,8 +13,6 @@ mod outcome;
 mod pairs;
 mod print;
 mod read;
-#[cfg(test)]
-mod tests;
 mod text;
 mod tree;
 mod value;

@@ -1,14 +1,14 @@
-//! Work that an edit makes stale.
+//! A machine with nothing in it, one that is full, and work that an edit makes stale.
 ghost use Rattle.std.specs.Prelude.{IfOk};
 ghost use Rattle.nb_core.specs.Core.{IsAddedCell};
 
 use nb_core::{Core, Placed, Shown, settle};
 use nb_eval::{Work, WorkDone, evaluate};
-use nb_log::{Entry, Event, Refusal};
+use nb_log::{Entry, Event, Refusal, push_entries};
 use nb_parser::parse_cell;
 use nb_sheet::Edit;
 use nb_syntax::{Cell, is_plain};
-use nb_value::{ErrorKind, Pairs};
+use nb_value::{Bytes, ErrorKind, Pairs};
 use std::alloc::Global;
 use std::mem::drop;
 use std::test::Fail;
@@ -135,5 +135,38 @@ fn a_full_log_refuses(rt: HostRuntime) -> Result<(), Fail> {
     assert_eq!(rt; place, 3 * 243 + 1);
     assert!(rt; matches!(refusal_at(&core, place), Some(Refusal::LogFull)));
     assert_eq!(rt; core.log().len(), place);
+    Ok(())
+}
+
+#[test]
+fn an_empty_machine_shows_nothing(rt: HostRuntime) -> Result<(), Fail> {
+    let core = Core::new(rt.alloc(), Pairs::new(rt.alloc()))?;
+    assert_eq!(rt; core.sheet().builtins().len(), 0);
+    assert_eq!(rt; core.sheet().rows().len(), 0);
+    assert_eq!(rt; core.log().len(), 0);
+    assert_eq!(rt; core.start(1), 0);
+    assert!(rt; core.next_ready().is_none());
+    assert!(rt; core.outcome(1).is_none());
+    assert!(rt; !core.wanted(1));
+    Ok(())
+}
+
+const REFUSED: &str = "[\"refused\",0,4,\"TooManyVariables\",{\"cell\":\"x = 1\",\"do\":\"cell\",\"module\":0,\"observed\":true}]\n";
+
+#[test]
+fn a_cell_too_many_is_refused(rt: HostRuntime) -> Result<(), Fail> {
+    let alloc = rt.alloc();
+    let mut core = Core::new(alloc, Pairs::new(alloc))?;
+    for _ in 0..1024 {
+        add(alloc, &mut core, "1")?;
+    }
+    let last = core.log().len();
+    let place = add(alloc, &mut core, "x = 1")?;
+    assert_eq!(rt; place, last + 1);
+    assert_eq!(rt; core.log().len(), last + 1);
+    assert_eq!(rt; core.sheet().rows().len(), 1024);
+    let mut text = Bytes::new(alloc);
+    push_entries(alloc, &mut text, &core.log().as_slice()[last as usize..])?;
+    assert!(rt; text.as_slice() == REFUSED.as_bytes());
     Ok(())
 }

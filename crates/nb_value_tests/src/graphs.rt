@@ -2,7 +2,7 @@
 ghost use Rattle.std.specs.Prelude.{◌≡◌, ◌<◌, ℕ, true, length};
 ghost use Rattle.nb_graph.specs.Needs.{has};
 
-use crate::graph::Graph;
+use nb_graph::Graph;
 use std::alloc::Global;
 use std::test::Fail;
 

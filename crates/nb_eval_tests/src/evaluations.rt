@@ -349,3 +349,16 @@ fn cells_pause(rt: HostRuntime) -> Result<(), Fail> {
     law_of_plain_cells();
     Ok(())
 }
+
+#[test]
+fn an_evaluation_keeps_its_segment(rt: HostRuntime) -> Result<(), Fail> {
+    let alloc = rt.alloc();
+    let Ok(finished) = evaluate(alloc, segment(alloc, &ends("1", ""))?) else {
+        return Err("memory".into());
+    };
+    assert_eq!(rt; finished.segment().pulls, 1);
+    assert_eq!(rt; finished.result().made, 0);
+    let end = finished.into_result();
+    assert_eq!(rt; told(alloc, &end.ending)?.as_str(), "Done 1");
+    Ok(())
+}

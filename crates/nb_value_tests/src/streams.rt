@@ -1,7 +1,11 @@
 //! Each object and each call in good order, and at faults.
 ghost use Rattle.std.specs.Prelude.{◌<◌, length};
 
-use super::*;
+use nb_io::{
+    ChildEnd, ChildEnds, Failed, FileFail, Files, MemFiles, MemSink, MemSource, MemSpawner,
+    NamedFiles, ReadFail, Sink, Source, SpawnFail, Spawner, StdFiles, StdSink, StdSource,
+    StdSpawner, read_to_end, write_pieces, write_whole,
+};
 use nb_value::{Argv, Bytes, Numbers, Text};
 use std::alloc::{AllocError, Global};
 use std::fs;
