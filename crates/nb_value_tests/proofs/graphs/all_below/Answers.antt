@@ -2,7 +2,7 @@ use Rattle.std.proofs.Common.{ℕ, ◌<◌, ◌∙◌, sym, ap, take, length, ge
 use Rattle.std.proofs.lemmas.List.{take_more, take_all}
 use Rattle.nb_graph.specs.Needs.{has}
 use Rattle.nb_graph.proofs.Lists.{has_push}
-use Rattle.nb_graph.proofs.tests.all_below.Goals as goal
+use Rattle.nb_value_tests.proofs.graphs.all_below.Goals as goal
 
 pub loop-u-preserved : goal.loop-u-preserved
 loop-u-preserved c =
