@@ -86,7 +86,7 @@ impl Graph {
     }
 
     /// How many nodes there are.
-    pub(crate) fn len(&self) -> usize
+    pub fn len(&self) -> usize
         ensures value { result ≡ length self.now }
         ensures graph { IsGraph self.now }
     {

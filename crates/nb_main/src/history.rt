@@ -11,6 +11,7 @@ use nb_lines::{ScriptLine, Scripts};
 use nb_log::Event;
 use nb_value::{Pairs, Tree};
 use std::alloc::{AllocError, Global};
+use std::mem::drop;
 
 /// The machine after the lines, each taken once the log rests: its log is their serial history.
 pub fn history(alloc: Global, lines: &Scripts) -> Result<Core, AllocError>
@@ -51,6 +52,9 @@ fn taken(answer: Result<u64, (Event, AllocError)>) -> Result<(), AllocError>
 {
     match answer {
         Ok(_) => Ok(()),
-        Err((_, refused)) => Err(refused),
+        Err((event, refused)) => {
+            drop(event);
+            Err(refused)
+        }
     }
 }
