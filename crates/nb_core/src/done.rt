@@ -7,6 +7,7 @@ use nb_eval::{Ending, Work, WorkDone, evaluate};
 use nb_log::Entry;
 use nb_value::{Outcome, Tree, Value};
 use std::alloc::{AllocError, Global};
+use std::mem::drop;
 
 /// Does the work.
 pub fn done_of(alloc: Global, work: Work) -> Result<WorkDone, AllocError>
@@ -16,7 +17,10 @@ pub fn done_of(alloc: Global, work: Work) -> Result<WorkDone, AllocError>
         Work::Direct(outcome) => Ok(WorkDone::Direct(outcome)),
         Work::Run(segment) => match evaluate(alloc, segment) {
             Ok(finished) => Ok(WorkDone::Ran(finished)),
-            Err((_, refused)) => Err(refused),
+            Err((segment, refused)) => {
+                drop(segment);
+                Err(refused)
+            }
         },
     }
 }

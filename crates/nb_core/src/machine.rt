@@ -21,6 +21,7 @@ use nb_sheet::Sheet;
 use nb_value::{Outcome, Pairs, Value};
 use std::alloc::{AllocError, Global};
 use std::marker::Model;
+use std::mem::drop;
 
 /// A log is full past this size.
 const FULL: u64 = 4_000_000;
@@ -189,6 +190,7 @@ impl Core {
     {
         let now = self.start(var);
         if now != start || !self.is_ready(var) {
+            drop(done);
             return Ok(Placed::Stale { held: start, now });
         }
         match self.is_work(var, &done) {
@@ -196,7 +198,10 @@ impl Core {
                 Ok(place) => Ok(Placed::Shown(place)),
                 Err(refused) => Err(refused),
             },
-            Ok(false) => Ok(Placed::Stale { held: start, now }),
+            Ok(false) => {
+                drop(done);
+                Ok(Placed::Stale { held: start, now })
+            }
             Err(refused) => Err((done, refused)),
         }
     }
@@ -288,7 +293,10 @@ fn step(core: &mut Core, var: u32) -> Result<(), AllocError>
     let done = done_of(core.allocator(), work)?;
     match core.complete(var, start, done) {
         Ok(_) => Ok(()),
-        Err((_, refused)) => Err(refused),
+        Err((done, refused)) => {
+            drop(done);
+            Err(refused)
+        }
     }
 }
 
