@@ -38,12 +38,12 @@ fn push_bare(out: &mut String, expr: &Expr) -> Result<(), AllocError>
         Expr::List(items) => push_enclosed(out, "[", items, "]"),
         Expr::Rec(members) => push_record(out, members),
         Expr::Call(function, args) => push_call(out, *function, args),
-        Expr::Fetch(key) => push_fetch(out, key.get()),
+        Expr::Fetch(key) => push_within(out, "fetch(", key.get(), ")"),
         Expr::Path(root, steps) => {
             push_expr(out, root.get(), PRIMARY)?;
             push_steps(out, steps)
         }
-        Expr::Unary(sign, part) => push_unary(out, *sign, part.get()),
+        Expr::Unary(sign, part) => push_after(out, sign_text(*sign), part.get(), POSTFIX),
         Expr::Product(first, more) => {
             push_expr(out, first.get(), UNARY)?;
             push_operands(out, more, UNARY)
@@ -60,8 +60,8 @@ fn push_bare(out: &mut String, expr: &Expr) -> Result<(), AllocError>
         Expr::Or(parts) => push_parts(out, parts, " || ", AND),
         Expr::Choose(test, yes, no) => {
             push_expr(out, test.get(), OR)?;
-            push_branch(out, " ? ", yes.get())?;
-            push_branch(out, " : ", no.get())
+            push_after(out, " ? ", yes.get(), OR)?;
+            push_after(out, " : ", no.get(), OR)
         }
     }
 }
@@ -133,29 +133,26 @@ fn push_record(out: &mut String, members: &Items<Member>) -> Result<(), AllocErr
     out.push_str("}")
 }
 
+// An expression at the lowest level, between two texts.
 #[cycle(print)]
-fn push_fetch(out: &mut String, key: &Expr) -> Result<(), AllocError>
-    ensures { OnOk result (string_bytes out.new ≡ string_bytes out.old ++ codes "fetch(" ++ printed key.now 0 ++ codes ")") }
+pub(crate) fn push_within(
+    out: &mut String,
+    before: &str,
+    expr: &Expr,
+    after: &str,
+) -> Result<(), AllocError>
+    ensures { OnOk result (string_bytes out.new ≡ string_bytes out.old ++ before.now ++ printed expr.now 0 ++ after.now) }
 {
-    out.push_str("fetch(")?;
-    push_expr(out, key, EXPR)?;
-    out.push_str(")")
+    push_after(out, before, expr, EXPR)?;
+    out.push_str(after)
 }
 
 #[cycle(print)]
-fn push_unary(out: &mut String, sign: Sign, part: &Expr) -> Result<(), AllocError>
-    ensures { OnOk result (string_bytes out.new ≡ string_bytes out.old ++ sign_text sign ++ printed part.now 7) }
-{
-    out.push_str(sign_text(sign))?;
-    push_expr(out, part, POSTFIX)
-}
-
-#[cycle(print)]
-fn push_branch(out: &mut String, before: &str, branch: &Expr) -> Result<(), AllocError>
-    ensures { OnOk result (string_bytes out.new ≡ string_bytes out.old ++ before.now ++ printed branch.now 1) }
+fn push_after(out: &mut String, before: &str, expr: &Expr, asked: u8) -> Result<(), AllocError>
+    ensures { OnOk result (string_bytes out.new ≡ string_bytes out.old ++ before.now ++ printed expr.now asked) }
 {
     out.push_str(before)?;
-    push_expr(out, branch, OR)
+    push_expr(out, expr, asked)
 }
 
 #[cycle(print)]
@@ -177,11 +174,7 @@ fn push_step(out: &mut String, step: &PathStep) -> Result<(), AllocError>
             out.push_str(".")?;
             out.push_str(name.as_str())
         }
-        PathStep::At(index) => {
-            out.push_str("[")?;
-            push_expr(out, index, EXPR)?;
-            out.push_str("]")
-        }
+        PathStep::At(index) => push_within(out, "[", index, "]"),
     }
 }
 

@@ -3,8 +3,7 @@
 ghost use Rattle.std.specs.Prelude.{◌≡◌, ◌++◌, OnOk, map, codes, string_bytes};
 ghost use Rattle.nb_syntax.specs.Print.{printed, separated, arm_text, stmt_text, block_text};
 
-use crate::level::EXPR;
-use crate::print_expr::{push_between, push_expr};
+use crate::print_expr::{push_between, push_within};
 use crate::tree::{Arm, Block, Expr, Stmt};
 use nb_value::{Items, Text};
 use std::alloc::AllocError;
@@ -42,19 +41,19 @@ fn push_stmt(out: &mut String, stmt: &Stmt) -> Result<(), AllocError>
             push_block(out, other)
         }
         Stmt::While(test, body) => {
-            push_head(out, "while (", test)?;
+            push_within(out, "while (", test, ") ")?;
             push_block(out, body)
         }
         Stmt::For(name, list, body) => {
             out.push_str("for (let ")?;
             out.push_str(name.as_str())?;
-            push_head(out, " of ", list)?;
+            push_within(out, " of ", list, ") ")?;
             push_block(out, body)
         }
-        Stmt::Yield(value) => push_effect(out, "yield ", value),
-        Stmt::Return(value) => push_effect(out, "return ", value),
-        Stmt::Throw(value) => push_effect(out, "throw ", value),
-        Stmt::Cleanup(value) => push_effect(out, "cleanup ", value),
+        Stmt::Yield(value) => push_within(out, "yield ", value, ";"),
+        Stmt::Return(value) => push_within(out, "return ", value, ";"),
+        Stmt::Throw(value) => push_within(out, "throw ", value, ";"),
+        Stmt::Cleanup(value) => push_within(out, "cleanup ", value, ";"),
     }
 }
 
@@ -64,32 +63,15 @@ fn push_arms(out: &mut String, arms: &Items<Arm>) -> Result<(), AllocError>
 {
     for (place, arm) in arms.as_slice().iter().enumerate() {
         push_between(out, place, " else ")?;
-        push_head(out, "if (", &arm.test)?;
+        push_within(out, "if (", &arm.test, ") ")?;
         push_block(out, &arm.body)?;
     }
     Ok(())
-}
-
-// What stands before a block, with its closing bracket.
-fn push_head(out: &mut String, before: &str, expr: &Expr) -> Result<(), AllocError>
-    ensures { OnOk result (string_bytes out.new ≡ string_bytes out.old ++ before.now ++ printed expr.now 0 ++ codes ") ") }
-{
-    out.push_str(before)?;
-    push_expr(out, expr, EXPR)?;
-    out.push_str(") ")
 }
 
 fn push_assignment(out: &mut String, name: &Text, value: &Expr) -> Result<(), AllocError>
     ensures { OnOk result (string_bytes out.new ≡ string_bytes out.old ++ name.now ++ codes " = " ++ printed value.now 0 ++ codes ";") }
 {
     out.push_str(name.as_str())?;
-    push_effect(out, " = ", value)
-}
-
-fn push_effect(out: &mut String, before: &str, value: &Expr) -> Result<(), AllocError>
-    ensures { OnOk result (string_bytes out.new ≡ string_bytes out.old ++ before.now ++ printed value.now 0 ++ codes ";") }
-{
-    out.push_str(before)?;
-    push_expr(out, value, EXPR)?;
-    out.push_str(";")
+    push_within(out, " = ", value, ";")
 }
