@@ -1,8 +1,9 @@
 //! The text of blocks and statements.
 
-ghost use Rattle.std.specs.Prelude.{◌≡◌, ◌++◌, OnOk, map, codes, string_bytes};
+ghost use Rattle.std.specs.Prelude.{◌≡◌, ◌++◌, OnOk, map, codes};
 ghost use Rattle.nb_syntax.specs.Print.{printed, separated, arm_text, stmt_text, block_text};
 
+use crate::draft::Draft;
 use crate::print_expr::{push_between, push_within};
 use crate::tree::{Arm, Block, Expr, Stmt};
 use nb_value::{Items, Text};
@@ -10,34 +11,34 @@ use std::alloc::AllocError;
 
 /// Adds the block's text, which is `{}` or has its statements with one space before and after each.
 #[cycle(print_statements)]
-pub(crate) fn push_block(out: &mut String, block: &Block) -> Result<(), AllocError>
-    ensures { OnOk result (string_bytes out.new ≡ string_bytes out.old ++ block_text block.now) }
+pub(crate) fn push_block(out: &mut Draft, block: &Block) -> Result<(), AllocError>
+    ensures { OnOk result (out.new ≡ out.old ++ block_text block.now) }
 {
     if block.stmts.is_empty() {
-        return out.push_str("{}");
+        return out.push("{}");
     }
-    out.push_str("{")?;
+    out.push("{")?;
     for stmt in block.stmts.as_slice() {
-        out.push_str(" ")?;
+        out.push(" ")?;
         push_stmt(out, stmt)?;
     }
-    out.push_str(" }")
+    out.push(" }")
 }
 
 #[cycle(print_statements)]
-fn push_stmt(out: &mut String, stmt: &Stmt) -> Result<(), AllocError>
-    ensures { OnOk result (string_bytes out.new ≡ string_bytes out.old ++ stmt_text stmt.now) }
+fn push_stmt(out: &mut Draft, stmt: &Stmt) -> Result<(), AllocError>
+    ensures { OnOk result (out.new ≡ out.old ++ stmt_text stmt.now) }
 {
     match stmt {
         Stmt::Let(name, value) => {
-            out.push_str("let ")?;
+            out.push("let ")?;
             push_assignment(out, name, value)
         }
         Stmt::Assign(name, value) => push_assignment(out, name, value),
         Stmt::If(arms, None) => push_arms(out, arms),
         Stmt::If(arms, Some(other)) => {
             push_arms(out, arms)?;
-            out.push_str(" else ")?;
+            out.push(" else ")?;
             push_block(out, other)
         }
         Stmt::While(test, body) => {
@@ -45,8 +46,8 @@ fn push_stmt(out: &mut String, stmt: &Stmt) -> Result<(), AllocError>
             push_block(out, body)
         }
         Stmt::For(name, list, body) => {
-            out.push_str("for (let ")?;
-            out.push_str(name.as_str())?;
+            out.push("for (let ")?;
+            out.push(name.as_str())?;
             push_within(out, " of ", list, ") ")?;
             push_block(out, body)
         }
@@ -58,8 +59,8 @@ fn push_stmt(out: &mut String, stmt: &Stmt) -> Result<(), AllocError>
 }
 
 #[cycle(print_statements)]
-fn push_arms(out: &mut String, arms: &Items<Arm>) -> Result<(), AllocError>
-    ensures { OnOk result (string_bytes out.new ≡ string_bytes out.old ++ separated (codes " else ") (map arm_text arms.now)) }
+fn push_arms(out: &mut Draft, arms: &Items<Arm>) -> Result<(), AllocError>
+    ensures { OnOk result (out.new ≡ out.old ++ separated (codes " else ") (map arm_text arms.now)) }
 {
     for (place, arm) in arms.as_slice().iter().enumerate() {
         push_between(out, place, " else ")?;
@@ -69,9 +70,9 @@ fn push_arms(out: &mut String, arms: &Items<Arm>) -> Result<(), AllocError>
     Ok(())
 }
 
-fn push_assignment(out: &mut String, name: &Text, value: &Expr) -> Result<(), AllocError>
-    ensures { OnOk result (string_bytes out.new ≡ string_bytes out.old ++ name.now ++ codes " = " ++ printed value.now 0 ++ codes ";") }
+fn push_assignment(out: &mut Draft, name: &Text, value: &Expr) -> Result<(), AllocError>
+    ensures { OnOk result (out.new ≡ out.old ++ name.now ++ codes " = " ++ printed value.now 0 ++ codes ";") }
 {
-    out.push_str(name.as_str())?;
+    out.push(name.as_str())?;
     push_within(out, " = ", value, ";")
 }
