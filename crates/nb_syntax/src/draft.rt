@@ -1,6 +1,7 @@
 //! Texts that are written piece by piece.
 
 ghost use Rattle.std.specs.Prelude.{◌≡◌, ◌++◌, [], OnOk, encode_utf8};
+ghost use Rattle.std.specs.Fmt.{signed_decimal};
 
 use nb_value::Text;
 use std::alloc::{AllocError, Global};
@@ -42,6 +43,14 @@ impl Draft {
         ensures { OnOk result (self.new ≡ self.old ++ encode_utf8 c) }
     {
         self.text.push(c)
+    }
+
+    /// Adds a number in decimal at the end. It fails only without memory.
+    pub(crate) fn push_int(&mut self, n: i64) -> Result<(), AllocError>
+        ensures { OnOk result (self.new ≡ self.old ++ signed_decimal n) }
+    {
+        let mut buffer = itoa::Buffer::new();
+        self.push(buffer.format(n))
     }
 
     /// The text, in place of the draft.

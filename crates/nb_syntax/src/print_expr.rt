@@ -1,7 +1,6 @@
 //! The text of expressions, with brackets exactly where they are needed.
 
 ghost use Rattle.std.specs.Prelude.{◌≡◌, ◌++◌, ◌==◌, OnOk, [], map, codes, if◌then◌else◌};
-ghost use Rattle.std.specs.Fmt.{signed_decimal};
 ghost use Rattle.nb_value.specs.Function.{function_name};
 ghost use Rattle.nb_syntax.specs.Print.{bare, printed, placed, operand, operand_text, operands_text, parts_text, separated, member_text, path_step_text, steps_text, sign_text};
 
@@ -31,7 +30,7 @@ fn push_bare(out: &mut Draft, expr: &Expr) -> Result<(), AllocError>
     ensures { OnOk result (out.new ≡ out.old ++ (bare expr.now).text) }
 {
     match expr {
-        Expr::Int(n) => push_int(out, *n),
+        Expr::Int(n) => out.push_int(*n),
         Expr::Quoted(text) => push_quoted(out, text.as_str()),
         Expr::Bool(b) => out.push(if *b { "true" } else { "false" }),
         Expr::Null => out.push("null"),
@@ -193,13 +192,6 @@ fn push_operand(out: &mut Draft, sign: Sign, part: &Expr, asked: u8) -> Result<(
     out.push(sign_text(sign))?;
     out.push(" ")?;
     push_expr(out, part, asked)
-}
-
-fn push_int(out: &mut Draft, n: i64) -> Result<(), AllocError>
-    ensures { OnOk result (out.new ≡ out.old ++ signed_decimal n) }
-{
-    let mut buffer = itoa::Buffer::new();
-    out.push(buffer.format(n))
 }
 
 /// The characters of the sign.
