@@ -42,10 +42,10 @@ impl Tree for Stmt {
         match self {
             Stmt::Let(name, value) => Ok(Stmt::Let(name.copy(alloc)?, value.copy(alloc)?)),
             Stmt::Assign(name, value) => Ok(Stmt::Assign(name.copy(alloc)?, value.copy(alloc)?)),
-            Stmt::If(arms, None) => Ok(Stmt::If(copy_arms(arms, alloc)?, None)),
-            Stmt::If(arms, Some(other)) => {
-                Ok(Stmt::If(copy_arms(arms, alloc)?, Some(other.copy(alloc)?)))
-            }
+            Stmt::If(arms, other) => match other {
+                None => Ok(Stmt::If(copy_arms(arms, alloc)?, None)),
+                Some(block) => Ok(Stmt::If(copy_arms(arms, alloc)?, Some(block.copy(alloc)?))),
+            },
             Stmt::While(test, body) => {
                 let body = body.copy(alloc)?;
                 Ok(Stmt::While(test.copy(alloc)?, body))
@@ -67,8 +67,11 @@ impl Tree for Stmt {
         match (self, other) {
             (Stmt::Let(a, b), Stmt::Let(c, d)) => a.same(c) && b.same(d),
             (Stmt::Assign(a, b), Stmt::Assign(c, d)) => a.same(c) && b.same(d),
-            (Stmt::If(a, None), Stmt::If(b, None)) => same_arms(a, b),
-            (Stmt::If(a, Some(b)), Stmt::If(c, Some(d))) => same_arms(a, c) && b.same(d),
+            (Stmt::If(a, b), Stmt::If(c, d)) => match (b, d) {
+                (None, None) => same_arms(a, c),
+                (Some(b), Some(d)) => same_arms(a, c) && b.same(d),
+                _ => false,
+            },
             (Stmt::While(a, b), Stmt::While(c, d)) => a.same(c) && b.same(d),
             (Stmt::For(a, b, c), Stmt::For(d, e, f)) => a.same(d) && b.same(e) && c.same(f),
             (Stmt::Yield(a), Stmt::Yield(b)) => a.same(b),

@@ -30,12 +30,12 @@ fn stmt_len(stmt: &Stmt) -> u64
     match stmt {
         Stmt::Let(name, value) => assignment_len(name, value).saturating_add(4),
         Stmt::Assign(name, value) => assignment_len(name, value),
-        Stmt::If(arms, None) => arms_len(arms),
-        Stmt::If(arms, Some(other)) => {
-            arms_len(arms)
+        Stmt::If(arms, other) => match other {
+            None => arms_len(arms),
+            Some(block) => arms_len(arms)
                 .saturating_add(6)
-                .saturating_add(block_len(other))
-        }
+                .saturating_add(block_len(block)),
+        },
         Stmt::While(test, body) => within_len("while (", test, ") ").saturating_add(block_len(
             body,
         )),

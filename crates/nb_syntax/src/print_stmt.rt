@@ -35,12 +35,14 @@ fn push_stmt(out: &mut Draft, stmt: &Stmt) -> Result<(), AllocError>
             push_assignment(out, name, value)
         }
         Stmt::Assign(name, value) => push_assignment(out, name, value),
-        Stmt::If(arms, None) => push_arms(out, arms),
-        Stmt::If(arms, Some(other)) => {
-            push_arms(out, arms)?;
-            out.push(" else ")?;
-            push_block(out, other)
-        }
+        Stmt::If(arms, other) => match other {
+            None => push_arms(out, arms),
+            Some(block) => {
+                push_arms(out, arms)?;
+                out.push(" else ")?;
+                push_block(out, block)
+            }
+        },
         Stmt::While(test, body) => {
             push_within(out, "while (", test, ") ")?;
             push_block(out, body)
