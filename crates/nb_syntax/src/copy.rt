@@ -1,4 +1,4 @@
-//! Copies of trees, and whether two are one.
+//! Copies of cells and expressions, and whether two are one.
 
 ghost use Rattle.std.specs.Prelude.{◌≡◌, ◌↔◌, IfOk, IsTrue};
 
@@ -53,16 +53,75 @@ impl Tree for Body {
 }
 
 impl Tree for Expr {
+    #[cycle(copy)]
     fn copy(&self, alloc: Global) -> Result<Expr, AllocError> {
-        copy_expr(self, alloc)
+        match self {
+            Expr::Int(n) => Ok(Expr::Int(*n)),
+            Expr::Quoted(text) => Ok(Expr::Quoted(text.copy(alloc)?)),
+            Expr::Bool(b) => Ok(Expr::Bool(*b)),
+            Expr::Null => Ok(Expr::Null),
+            Expr::Name(name) => Ok(Expr::Name(name.copy(alloc)?)),
+            Expr::List(items) => Ok(Expr::List(copy_exprs(items, alloc)?)),
+            Expr::Rec(members) => Ok(Expr::Rec(copy_members(members, alloc)?)),
+            Expr::Call(function, args) => Ok(Expr::Call(*function, copy_exprs(args, alloc)?)),
+            Expr::Fetch(key) => Ok(Expr::Fetch(copy_boxed(key, alloc)?)),
+            Expr::Path(root, steps) => Ok(Expr::Path(
+                copy_boxed(root, alloc)?,
+                copy_steps(steps, alloc)?,
+            )),
+            Expr::Unary(sign, a) => Ok(Expr::Unary(*sign, copy_boxed(a, alloc)?)),
+            Expr::Product(a, more) => Ok(Expr::Product(
+                copy_boxed(a, alloc)?,
+                copy_operands(more, alloc)?,
+            )),
+            Expr::Sum(a, more) => Ok(Expr::Sum(copy_boxed(a, alloc)?, copy_operands(more, alloc)?)),
+            Expr::Compare(sign, a, b) => {
+                Ok(Expr::Compare(*sign, copy_boxed(a, alloc)?, copy_boxed(b, alloc)?))
+            }
+            Expr::And(parts) => Ok(Expr::And(copy_exprs(parts, alloc)?)),
+            Expr::Or(parts) => Ok(Expr::Or(copy_exprs(parts, alloc)?)),
+            Expr::Choose(a, b, c) => {
+                Ok(Expr::Choose(
+                    copy_boxed(a, alloc)?,
+                    copy_boxed(b, alloc)?,
+                    copy_boxed(c, alloc)?,
+                ))
+            }
+        }
     }
 
+    #[cycle(same)]
     fn same(&self, other: &Expr) -> bool {
-        same_expr(self, other)
+        match (self, other) {
+            (Expr::Int(a), Expr::Int(b)) => *a == *b,
+            (Expr::Quoted(a), Expr::Quoted(b)) => a.same(b),
+            (Expr::Bool(a), Expr::Bool(b)) => *a == *b,
+            (Expr::Null, Expr::Null) => true,
+            (Expr::Name(a), Expr::Name(b)) => a.same(b),
+            (Expr::List(a), Expr::List(b)) => same_exprs(a, b),
+            (Expr::Rec(a), Expr::Rec(b)) => same_members(a, b),
+            (Expr::Call(f, a), Expr::Call(g, b)) => *f == *g && same_exprs(a, b),
+            (Expr::Fetch(a), Expr::Fetch(b)) => a.get().same(b.get()),
+            (Expr::Path(a, s), Expr::Path(b, t)) => a.get().same(b.get()) && same_steps(s, t),
+            (Expr::Unary(s, a), Expr::Unary(t, b)) => *s == *t && a.get().same(b.get()),
+            (Expr::Product(a, s), Expr::Product(b, t)) => a.get().same(b.get())
+                && same_operands(s, t),
+            (Expr::Sum(a, s), Expr::Sum(b, t)) => a.get().same(b.get()) && same_operands(s, t),
+            (Expr::Compare(s, a, b), Expr::Compare(t, c, d)) => {
+                *s == *t && a.get().same(c.get()) && b.get().same(d.get())
+            }
+            (Expr::And(a), Expr::And(b)) => same_exprs(a, b),
+            (Expr::Or(a), Expr::Or(b)) => same_exprs(a, b),
+            (Expr::Choose(a, b, c), Expr::Choose(d, e, f)) => {
+                a.get().same(d.get()) && b.get().same(e.get()) && c.get().same(f.get())
+            }
+            _ => false,
+        }
     }
 }
 
 impl Tree for Member {
+    #[cycle(copy)]
     fn copy(&self, alloc: Global) -> Result<Member, AllocError> {
         Ok(Member {
             key: self.key.copy(alloc)?,
@@ -70,22 +129,33 @@ impl Tree for Member {
         })
     }
 
+    #[cycle(same)]
     fn same(&self, other: &Member) -> bool {
         self.key.same(&other.key) && self.value.same(&other.value)
     }
 }
 
 impl Tree for PathStep {
+    #[cycle(copy)]
     fn copy(&self, alloc: Global) -> Result<PathStep, AllocError> {
-        copy_step(self, alloc)
+        match self {
+            PathStep::Field(name) => Ok(PathStep::Field(name.copy(alloc)?)),
+            PathStep::At(index) => Ok(PathStep::At(index.copy(alloc)?)),
+        }
     }
 
+    #[cycle(same)]
     fn same(&self, other: &PathStep) -> bool {
-        same_step(self, other)
+        match (self, other) {
+            (PathStep::Field(a), PathStep::Field(b)) => a.same(b),
+            (PathStep::At(a), PathStep::At(b)) => a.same(b),
+            _ => false,
+        }
     }
 }
 
 impl Tree for Operand {
+    #[cycle(copy)]
     fn copy(&self, alloc: Global) -> Result<Operand, AllocError> {
         Ok(Operand {
             sign: self.sign,
@@ -93,47 +163,9 @@ impl Tree for Operand {
         })
     }
 
+    #[cycle(same)]
     fn same(&self, other: &Operand) -> bool {
         self.sign == other.sign && self.expr.same(&other.expr)
-    }
-}
-
-#[cycle(copy)]
-fn copy_expr(expr: &Expr, alloc: Global) -> Result<Expr, AllocError>
-    ensures { IfOk result (λ v. v ≡ expr.now) }
-{
-    match expr {
-        Expr::Int(n) => Ok(Expr::Int(*n)),
-        Expr::Quoted(text) => Ok(Expr::Quoted(text.copy(alloc)?)),
-        Expr::Bool(b) => Ok(Expr::Bool(*b)),
-        Expr::Null => Ok(Expr::Null),
-        Expr::Name(name) => Ok(Expr::Name(name.copy(alloc)?)),
-        Expr::List(items) => Ok(Expr::List(copy_exprs(items, alloc)?)),
-        Expr::Rec(members) => Ok(Expr::Rec(copy_members(members, alloc)?)),
-        Expr::Call(function, args) => Ok(Expr::Call(*function, copy_exprs(args, alloc)?)),
-        Expr::Fetch(key) => Ok(Expr::Fetch(copy_boxed(key, alloc)?)),
-        Expr::Path(root, steps) => Ok(Expr::Path(
-            copy_boxed(root, alloc)?,
-            copy_steps(steps, alloc)?,
-        )),
-        Expr::Unary(sign, a) => Ok(Expr::Unary(*sign, copy_boxed(a, alloc)?)),
-        Expr::Product(a, rest) => Ok(Expr::Product(
-            copy_boxed(a, alloc)?,
-            copy_operands(rest, alloc)?,
-        )),
-        Expr::Sum(a, rest) => Ok(Expr::Sum(copy_boxed(a, alloc)?, copy_operands(rest, alloc)?)),
-        Expr::Compare(sign, a, b) => Ok(Expr::Compare(
-            *sign,
-            copy_boxed(a, alloc)?,
-            copy_boxed(b, alloc)?,
-        )),
-        Expr::And(parts) => Ok(Expr::And(copy_exprs(parts, alloc)?)),
-        Expr::Or(parts) => Ok(Expr::Or(copy_exprs(parts, alloc)?)),
-        Expr::Choose(a, b, c) => Ok(Expr::Choose(
-            copy_boxed(a, alloc)?,
-            copy_boxed(b, alloc)?,
-            copy_boxed(c, alloc)?,
-        )),
     }
 }
 
@@ -141,7 +173,7 @@ fn copy_expr(expr: &Expr, alloc: Global) -> Result<Expr, AllocError>
 fn copy_boxed(boxed: &Boxed<Expr>, alloc: Global) -> Result<Boxed<Expr>, AllocError>
     ensures { IfOk result (λ v. v ≡ boxed.now) }
 {
-    Boxed::new(alloc, copy_expr(boxed.get(), alloc)?)
+    Boxed::new(alloc, boxed.get().copy(alloc)?)
 }
 
 #[cycle(copy)]
@@ -150,7 +182,7 @@ fn copy_exprs(exprs: &Items<Expr>, alloc: Global) -> Result<Items<Expr>, AllocEr
 {
     let mut copies = Items::new(alloc);
     for expr in exprs.as_slice() {
-        copies.push(copy_expr(expr, alloc)?)?;
+        copies.push(expr.copy(alloc)?)?;
     }
     Ok(copies)
 }
@@ -161,10 +193,7 @@ fn copy_members(members: &Items<Member>, alloc: Global) -> Result<Items<Member>,
 {
     let mut copies = Items::new(alloc);
     for member in members.as_slice() {
-        copies.push(Member {
-            key: member.key.copy(alloc)?,
-            value: copy_expr(&member.value, alloc)?,
-        })?;
+        copies.push(member.copy(alloc)?)?;
     }
     Ok(copies)
 }
@@ -175,10 +204,7 @@ fn copy_operands(operands: &Items<Operand>, alloc: Global) -> Result<Items<Opera
 {
     let mut copies = Items::new(alloc);
     for operand in operands.as_slice() {
-        copies.push(Operand {
-            sign: operand.sign,
-            expr: copy_expr(&operand.expr, alloc)?,
-        })?;
+        copies.push(operand.copy(alloc)?)?;
     }
     Ok(copies)
 }
@@ -189,50 +215,9 @@ fn copy_steps(steps: &Items<PathStep>, alloc: Global) -> Result<Items<PathStep>,
 {
     let mut copies = Items::new(alloc);
     for step in steps.as_slice() {
-        copies.push(copy_step(step, alloc)?)?;
+        copies.push(step.copy(alloc)?)?;
     }
     Ok(copies)
-}
-
-#[cycle(copy)]
-fn copy_step(step: &PathStep, alloc: Global) -> Result<PathStep, AllocError>
-    ensures { IfOk result (λ v. v ≡ step.now) }
-{
-    match step {
-        PathStep::Field(name) => Ok(PathStep::Field(name.copy(alloc)?)),
-        PathStep::At(index) => Ok(PathStep::At(copy_expr(index, alloc)?)),
-    }
-}
-
-#[cycle(same)]
-fn same_expr(expr: &Expr, other: &Expr) -> bool
-    ensures { IsTrue result ↔ (expr.now ≡ other.now) }
-{
-    match (expr, other) {
-        (Expr::Int(a), Expr::Int(b)) => *a == *b,
-        (Expr::Quoted(a), Expr::Quoted(b)) => a.same(b),
-        (Expr::Bool(a), Expr::Bool(b)) => *a == *b,
-        (Expr::Null, Expr::Null) => true,
-        (Expr::Name(a), Expr::Name(b)) => a.same(b),
-        (Expr::List(a), Expr::List(b)) => same_exprs(a, b),
-        (Expr::Rec(a), Expr::Rec(b)) => same_members(a, b),
-        (Expr::Call(f, a), Expr::Call(g, b)) => *f == *g && same_exprs(a, b),
-        (Expr::Fetch(a), Expr::Fetch(b)) => same_expr(a.get(), b.get()),
-        (Expr::Path(a, s), Expr::Path(b, t)) => same_expr(a.get(), b.get()) && same_steps(s, t),
-        (Expr::Unary(s, a), Expr::Unary(t, b)) => *s == *t && same_expr(a.get(), b.get()),
-        (Expr::Product(a, s), Expr::Product(b, t)) => same_expr(a.get(), b.get())
-            && same_operands(s, t),
-        (Expr::Sum(a, s), Expr::Sum(b, t)) => same_expr(a.get(), b.get()) && same_operands(s, t),
-        (Expr::Compare(s, a, b), Expr::Compare(t, c, d)) => *s == *t
-            && same_expr(a.get(), c.get())
-            && same_expr(b.get(), d.get()),
-        (Expr::And(a), Expr::And(b)) => same_exprs(a, b),
-        (Expr::Or(a), Expr::Or(b)) => same_exprs(a, b),
-        (Expr::Choose(a, b, c), Expr::Choose(d, e, f)) => same_expr(a.get(), d.get())
-            && same_expr(b.get(), e.get())
-            && same_expr(c.get(), f.get()),
-        _ => false,
-    }
 }
 
 #[cycle(same)]
@@ -245,7 +230,7 @@ fn same_exprs(exprs: &Items<Expr>, other: &Items<Expr>) -> bool
         return false;
     }
     for i in 0..xs.len() {
-        if !same_expr(&xs[i], &ys[i]) {
+        if !xs[i].same(&ys[i]) {
             return false;
         }
     }
@@ -262,7 +247,7 @@ fn same_members(members: &Items<Member>, other: &Items<Member>) -> bool
         return false;
     }
     for i in 0..xs.len() {
-        if !(xs[i].key.same(&ys[i].key) && same_expr(&xs[i].value, &ys[i].value)) {
+        if !xs[i].same(&ys[i]) {
             return false;
         }
     }
@@ -279,7 +264,7 @@ fn same_operands(operands: &Items<Operand>, other: &Items<Operand>) -> bool
         return false;
     }
     for i in 0..xs.len() {
-        if !(xs[i].sign == ys[i].sign && same_expr(&xs[i].expr, &ys[i].expr)) {
+        if !xs[i].same(&ys[i]) {
             return false;
         }
     }
@@ -296,20 +281,9 @@ fn same_steps(steps: &Items<PathStep>, other: &Items<PathStep>) -> bool
         return false;
     }
     for i in 0..xs.len() {
-        if !same_step(&xs[i], &ys[i]) {
+        if !xs[i].same(&ys[i]) {
             return false;
         }
     }
     true
-}
-
-#[cycle(same)]
-fn same_step(step: &PathStep, other: &PathStep) -> bool
-    ensures { IsTrue result ↔ (step.now ≡ other.now) }
-{
-    match (step, other) {
-        (PathStep::Field(a), PathStep::Field(b)) => a.same(b),
-        (PathStep::At(a), PathStep::At(b)) => same_expr(a, b),
-        _ => false,
-    }
 }

@@ -7,16 +7,21 @@ use nb_value::{Items, Tree};
 use std::alloc::{AllocError, Global};
 
 impl Tree for Block {
+    #[cycle(copy_statements)]
     fn copy(&self, alloc: Global) -> Result<Block, AllocError> {
-        copy_block(self, alloc)
+        Ok(Block {
+            stmts: copy_stmts(&self.stmts, alloc)?,
+        })
     }
 
+    #[cycle(same_statements)]
     fn same(&self, other: &Block) -> bool {
-        same_block(self, other)
+        same_stmts(&self.stmts, &other.stmts)
     }
 }
 
 impl Tree for Arm {
+    #[cycle(copy_statements)]
     fn copy(&self, alloc: Global) -> Result<Arm, AllocError> {
         let body = self.body.copy(alloc)?;
         Ok(Arm {
@@ -25,30 +30,68 @@ impl Tree for Arm {
         })
     }
 
+    #[cycle(same_statements)]
     fn same(&self, other: &Arm) -> bool {
         self.test.same(&other.test) && self.body.same(&other.body)
     }
 }
 
 impl Tree for Stmt {
+    #[cycle(copy_statements)]
     fn copy(&self, alloc: Global) -> Result<Stmt, AllocError> {
-        copy_stmt(self, alloc)
+        match self {
+            Stmt::Let(name, value) => Ok(Stmt::Let(name.copy(alloc)?, value.copy(alloc)?)),
+            Stmt::Assign(name, value) => Ok(Stmt::Assign(name.copy(alloc)?, value.copy(alloc)?)),
+            Stmt::If(arms, other) => match other {
+                None => Ok(Stmt::If(copy_arms(arms, alloc)?, None)),
+                Some(block) => Ok(Stmt::If(copy_arms(arms, alloc)?, Some(block.copy(alloc)?))),
+            },
+            Stmt::While(test, body) => {
+                let body = body.copy(alloc)?;
+                Ok(Stmt::While(test.copy(alloc)?, body))
+            }
+            Stmt::For(name, list, body) => {
+                let name = name.copy(alloc)?;
+                let body = body.copy(alloc)?;
+                Ok(Stmt::For(name, list.copy(alloc)?, body))
+            }
+            Stmt::Yield(value) => Ok(Stmt::Yield(value.copy(alloc)?)),
+            Stmt::Return(value) => Ok(Stmt::Return(value.copy(alloc)?)),
+            Stmt::Throw(value) => Ok(Stmt::Throw(value.copy(alloc)?)),
+            Stmt::Cleanup(value) => Ok(Stmt::Cleanup(value.copy(alloc)?)),
+        }
     }
 
+    #[cycle(same_statements)]
     fn same(&self, other: &Stmt) -> bool {
-        same_stmt(self, other)
+        match (self, other) {
+            (Stmt::Let(a, b), Stmt::Let(c, d)) => a.same(c) && b.same(d),
+            (Stmt::Assign(a, b), Stmt::Assign(c, d)) => a.same(c) && b.same(d),
+            (Stmt::If(a, b), Stmt::If(c, d)) => match (b, d) {
+                (None, None) => same_arms(a, c),
+                (Some(b), Some(d)) => same_arms(a, c) && b.same(d),
+                _ => false,
+            },
+            (Stmt::While(a, b), Stmt::While(c, d)) => a.same(c) && b.same(d),
+            (Stmt::For(a, b, c), Stmt::For(d, e, f)) => a.same(d) && b.same(e) && c.same(f),
+            (Stmt::Yield(a), Stmt::Yield(b)) => a.same(b),
+            (Stmt::Return(a), Stmt::Return(b)) => a.same(b),
+            (Stmt::Throw(a), Stmt::Throw(b)) => a.same(b),
+            (Stmt::Cleanup(a), Stmt::Cleanup(b)) => a.same(b),
+            _ => false,
+        }
     }
 }
 
 #[cycle(copy_statements)]
-fn copy_block(block: &Block, alloc: Global) -> Result<Block, AllocError>
-    ensures { IfOk result (λ v. v ≡ block.now) }
+fn copy_stmts(stmts: &Items<Stmt>, alloc: Global) -> Result<Items<Stmt>, AllocError>
+    ensures { IfOk result (λ v. v ≡ stmts.now) }
 {
     let mut copies = Items::new(alloc);
-    for stmt in block.stmts.as_slice() {
-        copies.push(copy_stmt(stmt, alloc)?)?;
+    for stmt in stmts.as_slice() {
+        copies.push(stmt.copy(alloc)?)?;
     }
-    Ok(Block { stmts: copies })
+    Ok(copies)
 }
 
 #[cycle(copy_statements)]
@@ -57,45 +100,9 @@ fn copy_arms(arms: &Items<Arm>, alloc: Global) -> Result<Items<Arm>, AllocError>
 {
     let mut copies = Items::new(alloc);
     for arm in arms.as_slice() {
-        let body = copy_block(&arm.body, alloc)?;
-        let test = arm.test.copy(alloc)?;
-        copies.push(Arm { test, body })?;
+        copies.push(arm.copy(alloc)?)?;
     }
     Ok(copies)
-}
-
-#[cycle(copy_statements)]
-fn copy_stmt(stmt: &Stmt, alloc: Global) -> Result<Stmt, AllocError>
-    ensures { IfOk result (λ v. v ≡ stmt.now) }
-{
-    match stmt {
-        Stmt::Let(name, value) => Ok(Stmt::Let(name.copy(alloc)?, value.copy(alloc)?)),
-        Stmt::Assign(name, value) => Ok(Stmt::Assign(name.copy(alloc)?, value.copy(alloc)?)),
-        Stmt::If(arms, None) => Ok(Stmt::If(copy_arms(arms, alloc)?, None)),
-        Stmt::If(arms, Some(other)) => {
-            Ok(Stmt::If(copy_arms(arms, alloc)?, Some(copy_block(other, alloc)?)))
-        }
-        Stmt::While(test, body) => {
-            let body = copy_block(body, alloc)?;
-            Ok(Stmt::While(test.copy(alloc)?, body))
-        }
-        Stmt::For(name, list, body) => {
-            let name = name.copy(alloc)?;
-            let body = copy_block(body, alloc)?;
-            Ok(Stmt::For(name, list.copy(alloc)?, body))
-        }
-        Stmt::Yield(value) => Ok(Stmt::Yield(value.copy(alloc)?)),
-        Stmt::Return(value) => Ok(Stmt::Return(value.copy(alloc)?)),
-        Stmt::Throw(value) => Ok(Stmt::Throw(value.copy(alloc)?)),
-        Stmt::Cleanup(value) => Ok(Stmt::Cleanup(value.copy(alloc)?)),
-    }
-}
-
-#[cycle(same_statements)]
-fn same_block(block: &Block, other: &Block) -> bool
-    ensures { IsTrue result ↔ (block.now ≡ other.now) }
-{
-    same_stmts(&block.stmts, &other.stmts)
 }
 
 #[cycle(same_statements)]
@@ -108,7 +115,7 @@ fn same_stmts(stmts: &Items<Stmt>, other: &Items<Stmt>) -> bool
         return false;
     }
     for i in 0..xs.len() {
-        if !same_stmt(&xs[i], &ys[i]) {
+        if !xs[i].same(&ys[i]) {
             return false;
         }
     }
@@ -125,28 +132,9 @@ fn same_arms(arms: &Items<Arm>, other: &Items<Arm>) -> bool
         return false;
     }
     for i in 0..xs.len() {
-        if !(xs[i].test.same(&ys[i].test) && same_block(&xs[i].body, &ys[i].body)) {
+        if !xs[i].same(&ys[i]) {
             return false;
         }
     }
     true
-}
-
-#[cycle(same_statements)]
-fn same_stmt(stmt: &Stmt, other: &Stmt) -> bool
-    ensures { IsTrue result ↔ (stmt.now ≡ other.now) }
-{
-    match (stmt, other) {
-        (Stmt::Let(a, b), Stmt::Let(c, d)) => a.same(c) && b.same(d),
-        (Stmt::Assign(a, b), Stmt::Assign(c, d)) => a.same(c) && b.same(d),
-        (Stmt::If(a, None), Stmt::If(b, None)) => same_arms(a, b),
-        (Stmt::If(a, Some(b)), Stmt::If(c, Some(d))) => same_arms(a, c) && same_block(b, d),
-        (Stmt::While(a, b), Stmt::While(c, d)) => a.same(c) && same_block(b, d),
-        (Stmt::For(a, b, c), Stmt::For(d, e, f)) => a.same(d) && b.same(e) && same_block(c, f),
-        (Stmt::Yield(a), Stmt::Yield(b)) => a.same(b),
-        (Stmt::Return(a), Stmt::Return(b)) => a.same(b),
-        (Stmt::Throw(a), Stmt::Throw(b)) => a.same(b),
-        (Stmt::Cleanup(a), Stmt::Cleanup(b)) => a.same(b),
-        _ => false,
-    }
 }

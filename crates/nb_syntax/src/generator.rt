@@ -47,8 +47,10 @@ fn stmt_yields(stmt: &Stmt) -> bool
 {
     match stmt {
         Stmt::Yield(_) => true,
-        Stmt::If(arms, None) => arms_yield(arms),
-        Stmt::If(arms, Some(other)) => arms_yield(arms) || block_yields(other),
+        Stmt::If(arms, other) => match other {
+            None => arms_yield(arms),
+            Some(block) => arms_yield(arms) || block_yields(block),
+        },
         Stmt::While(_, body) => block_yields(body),
         Stmt::For(_, _, body) => block_yields(body),
         _ => false,

@@ -2,7 +2,7 @@
 
 ghost use Rattle.std.specs.Prelude.{◌≡◌, ◌-◌, ◌^◌, ◌==◌, length, min, map, codes, [], if◌then◌else◌};
 ghost use Rattle.std.specs.Fmt.{signed_decimal};
-ghost use Rattle.nb_syntax.specs.Print.{bare, printed, operand, operand_text, operands_text, parts_text, separated, member_text, path_step_text, steps_text, sign_text};
+ghost use Rattle.nb_syntax.specs.Print.{bare, printed, operand, operand_text, operands_text, parts_text, separated, member_text, path_step_text, steps_text};
 
 use crate::level::{AND, COMPARISON, EXPR, OR, POSTFIX, PRIMARY, PRODUCT, SUM, UNARY, level};
 use crate::print_expr::sign_text;
@@ -39,7 +39,10 @@ fn bare_len(expr: &Expr) -> u64
             .saturating_add(2),
         Expr::Fetch(key) => expr_len(key.get(), EXPR).saturating_add(7),
         Expr::Path(root, steps) => expr_len(root.get(), PRIMARY).saturating_add(steps_len(steps)),
-        Expr::Unary(sign, part) => sign_len(*sign).saturating_add(expr_len(part.get(), POSTFIX)),
+        Expr::Unary(sign, part) => (sign_text(*sign).len() as u64).saturating_add(expr_len(
+            part.get(),
+            POSTFIX,
+        )),
         Expr::Product(first, more) => {
             expr_len(first.get(), UNARY).saturating_add(operands_len(more, UNARY))
         }
@@ -133,7 +136,7 @@ fn operands_len(operands: &Items<Operand>, asked: u8) -> u64
 fn operand_len(sign: Sign, part: &Expr, asked: u8) -> u64
     ensures { result ≡ min (length (operand_text asked (sign, bare part.now))) (2 ^ 64 - 1) }
 {
-    sign_len(sign)
+    (sign_text(sign).len() as u64)
         .saturating_add(2)
         .saturating_add(expr_len(part, asked))
 }
@@ -143,10 +146,4 @@ fn int_len(n: i64) -> u64
 {
     let mut buffer = itoa::Buffer::new();
     buffer.format(n).len() as u64
-}
-
-fn sign_len(sign: Sign) -> u64
-    ensures { result ≡ length (sign_text sign) }
-{
-    sign_text(sign).len() as u64
 }

@@ -30,21 +30,23 @@ fn stmt_len(stmt: &Stmt) -> u64
     match stmt {
         Stmt::Let(name, value) => assignment_len(name, value).saturating_add(4),
         Stmt::Assign(name, value) => assignment_len(name, value),
-        Stmt::If(arms, None) => arms_len(arms),
-        Stmt::If(arms, Some(other)) => {
-            arms_len(arms)
+        Stmt::If(arms, other) => match other {
+            None => arms_len(arms),
+            Some(block) => arms_len(arms)
                 .saturating_add(6)
-                .saturating_add(block_len(other))
-        }
-        Stmt::While(test, body) => head_len("while (", test).saturating_add(block_len(body)),
+                .saturating_add(block_len(block)),
+        },
+        Stmt::While(test, body) => within_len("while (", test, ") ").saturating_add(block_len(
+            body,
+        )),
         Stmt::For(name, list, body) => (name.len() as u64)
             .saturating_add(9)
-            .saturating_add(head_len(" of ", list))
+            .saturating_add(within_len(" of ", list, ") "))
             .saturating_add(block_len(body)),
-        Stmt::Yield(value) => effect_len("yield ", value),
-        Stmt::Return(value) => effect_len("return ", value),
-        Stmt::Throw(value) => effect_len("throw ", value),
-        Stmt::Cleanup(value) => effect_len("cleanup ", value),
+        Stmt::Yield(value) => within_len("yield ", value, ";"),
+        Stmt::Return(value) => within_len("return ", value, ";"),
+        Stmt::Throw(value) => within_len("throw ", value, ";"),
+        Stmt::Cleanup(value) => within_len("cleanup ", value, ";"),
     }
 }
 
@@ -54,31 +56,23 @@ fn arms_len(arms: &Items<Arm>) -> u64
 {
     let mut total = 0u64;
     for (place, arm) in arms.as_slice().iter().enumerate() {
-        let length = head_len("if (", &arm.test).saturating_add(block_len(&arm.body));
+        let length = within_len("if (", &arm.test, ") ").saturating_add(block_len(&arm.body));
         total = total.saturating_add(between_len(place, " else ").saturating_add(length));
     }
     total
 }
 
-// What stands before a block, with its closing bracket and a space.
-fn head_len(before: &str, expr: &Expr) -> u64
-    ensures { result ≡ min (length (before.now ++ printed expr.now 0 ++ codes ") ")) (2 ^ 64 - 1) }
-{
-    (before.len() as u64)
-        .saturating_add(expr_len(expr, EXPR))
-        .saturating_add(2)
-}
-
 fn assignment_len(name: &Text, value: &Expr) -> u64
     ensures { result ≡ min (length (name.now ++ codes " = " ++ printed value.now 0 ++ codes ";")) (2 ^ 64 - 1) }
 {
-    (name.len() as u64).saturating_add(effect_len(" = ", value))
+    (name.len() as u64).saturating_add(within_len(" = ", value, ";"))
 }
 
-fn effect_len(before: &str, value: &Expr) -> u64
-    ensures { result ≡ min (length (before.now ++ printed value.now 0 ++ codes ";")) (2 ^ 64 - 1) }
+// An expression at the lowest level, between two texts.
+fn within_len(before: &str, expr: &Expr, after: &str) -> u64
+    ensures { result ≡ min (length (before.now ++ printed expr.now 0 ++ after.now)) (2 ^ 64 - 1) }
 {
     (before.len() as u64)
-        .saturating_add(expr_len(value, EXPR))
-        .saturating_add(1)
+        .saturating_add(expr_len(expr, EXPR))
+        .saturating_add(after.len() as u64)
 }

@@ -3,6 +3,7 @@
 
 mod copy;
 mod copy_stmt;
+mod draft;
 mod free;
 mod free_expr;
 mod free_stmt;

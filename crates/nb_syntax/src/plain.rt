@@ -129,8 +129,10 @@ fn stmt_plain(stmt: &Stmt) -> bool
     match stmt {
         Stmt::Let(_, value) => expr_plain(value),
         Stmt::Assign(_, value) => expr_plain(value),
-        Stmt::If(arms, None) => arms_plain(arms),
-        Stmt::If(arms, Some(other)) => arms_plain(arms) && block_plain(other),
+        Stmt::If(arms, other) => match other {
+            None => arms_plain(arms),
+            Some(block) => arms_plain(arms) && block_plain(block),
+        },
         Stmt::While(test, body) => expr_plain(test) && block_plain(body),
         Stmt::For(_, list, body) => expr_plain(list) && block_plain(body),
         Stmt::Yield(_) | Stmt::Cleanup(_) => false,

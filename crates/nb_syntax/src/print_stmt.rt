@@ -1,95 +1,80 @@
 //! The text of blocks and statements.
 
-ghost use Rattle.std.specs.Prelude.{◌≡◌, ◌++◌, OnOk, map, codes, string_bytes};
+ghost use Rattle.std.specs.Prelude.{◌≡◌, ◌++◌, OnOk, map, codes};
 ghost use Rattle.nb_syntax.specs.Print.{printed, separated, arm_text, stmt_text, block_text};
 
-use crate::level::EXPR;
-use crate::print_expr::{push_between, push_expr};
+use crate::draft::Draft;
+use crate::print_expr::{push_between, push_within};
 use crate::tree::{Arm, Block, Expr, Stmt};
 use nb_value::{Items, Text};
 use std::alloc::AllocError;
 
 /// Adds the block's text, which is `{}` or has its statements with one space before and after each.
 #[cycle(print_statements)]
-pub(crate) fn push_block(out: &mut String, block: &Block) -> Result<(), AllocError>
-    ensures { OnOk result (string_bytes out.new ≡ string_bytes out.old ++ block_text block.now) }
+pub(crate) fn push_block(out: &mut Draft, block: &Block) -> Result<(), AllocError>
+    ensures { OnOk result (out.new ≡ out.old ++ block_text block.now) }
 {
     if block.stmts.is_empty() {
-        return out.push_str("{}");
+        return out.push("{}");
     }
-    out.push_str("{")?;
+    out.push("{")?;
     for stmt in block.stmts.as_slice() {
-        out.push_str(" ")?;
+        out.push(" ")?;
         push_stmt(out, stmt)?;
     }
-    out.push_str(" }")
+    out.push(" }")
 }
 
 #[cycle(print_statements)]
-fn push_stmt(out: &mut String, stmt: &Stmt) -> Result<(), AllocError>
-    ensures { OnOk result (string_bytes out.new ≡ string_bytes out.old ++ stmt_text stmt.now) }
+fn push_stmt(out: &mut Draft, stmt: &Stmt) -> Result<(), AllocError>
+    ensures { OnOk result (out.new ≡ out.old ++ stmt_text stmt.now) }
 {
     match stmt {
         Stmt::Let(name, value) => {
-            out.push_str("let ")?;
+            out.push("let ")?;
             push_assignment(out, name, value)
         }
         Stmt::Assign(name, value) => push_assignment(out, name, value),
-        Stmt::If(arms, None) => push_arms(out, arms),
-        Stmt::If(arms, Some(other)) => {
-            push_arms(out, arms)?;
-            out.push_str(" else ")?;
-            push_block(out, other)
-        }
+        Stmt::If(arms, other) => match other {
+            None => push_arms(out, arms),
+            Some(block) => {
+                push_arms(out, arms)?;
+                out.push(" else ")?;
+                push_block(out, block)
+            }
+        },
         Stmt::While(test, body) => {
-            push_head(out, "while (", test)?;
+            push_within(out, "while (", test, ") ")?;
             push_block(out, body)
         }
         Stmt::For(name, list, body) => {
-            out.push_str("for (let ")?;
-            out.push_str(name.as_str())?;
-            push_head(out, " of ", list)?;
+            out.push("for (let ")?;
+            out.push(name.as_str())?;
+            push_within(out, " of ", list, ") ")?;
             push_block(out, body)
         }
-        Stmt::Yield(value) => push_effect(out, "yield ", value),
-        Stmt::Return(value) => push_effect(out, "return ", value),
-        Stmt::Throw(value) => push_effect(out, "throw ", value),
-        Stmt::Cleanup(value) => push_effect(out, "cleanup ", value),
+        Stmt::Yield(value) => push_within(out, "yield ", value, ";"),
+        Stmt::Return(value) => push_within(out, "return ", value, ";"),
+        Stmt::Throw(value) => push_within(out, "throw ", value, ";"),
+        Stmt::Cleanup(value) => push_within(out, "cleanup ", value, ";"),
     }
 }
 
 #[cycle(print_statements)]
-fn push_arms(out: &mut String, arms: &Items<Arm>) -> Result<(), AllocError>
-    ensures { OnOk result (string_bytes out.new ≡ string_bytes out.old ++ separated (codes " else ") (map arm_text arms.now)) }
+fn push_arms(out: &mut Draft, arms: &Items<Arm>) -> Result<(), AllocError>
+    ensures { OnOk result (out.new ≡ out.old ++ separated (codes " else ") (map arm_text arms.now)) }
 {
     for (place, arm) in arms.as_slice().iter().enumerate() {
         push_between(out, place, " else ")?;
-        push_head(out, "if (", &arm.test)?;
+        push_within(out, "if (", &arm.test, ") ")?;
         push_block(out, &arm.body)?;
     }
     Ok(())
 }
 
-// What stands before a block, with its closing bracket.
-fn push_head(out: &mut String, before: &str, expr: &Expr) -> Result<(), AllocError>
-    ensures { OnOk result (string_bytes out.new ≡ string_bytes out.old ++ before.now ++ printed expr.now 0 ++ codes ") ") }
+fn push_assignment(out: &mut Draft, name: &Text, value: &Expr) -> Result<(), AllocError>
+    ensures { OnOk result (out.new ≡ out.old ++ name.now ++ codes " = " ++ printed value.now 0 ++ codes ";") }
 {
-    out.push_str(before)?;
-    push_expr(out, expr, EXPR)?;
-    out.push_str(") ")
-}
-
-fn push_assignment(out: &mut String, name: &Text, value: &Expr) -> Result<(), AllocError>
-    ensures { OnOk result (string_bytes out.new ≡ string_bytes out.old ++ name.now ++ codes " = " ++ printed value.now 0 ++ codes ";") }
-{
-    out.push_str(name.as_str())?;
-    push_effect(out, " = ", value)
-}
-
-fn push_effect(out: &mut String, before: &str, value: &Expr) -> Result<(), AllocError>
-    ensures { OnOk result (string_bytes out.new ≡ string_bytes out.old ++ before.now ++ printed value.now 0 ++ codes ";") }
-{
-    out.push_str(before)?;
-    push_expr(out, value, EXPR)?;
-    out.push_str(";")
+    out.push(name.as_str())?;
+    push_within(out, " = ", value, ";")
 }

@@ -1,8 +1,9 @@
 //! The text of a cell.
 
-ghost use Rattle.std.specs.Prelude.{◌≡◌, ◌++◌, OnOk, IfOk, string_bytes};
+ghost use Rattle.std.specs.Prelude.{◌≡◌, ◌++◌, OnOk, IfOk};
 ghost use Rattle.nb_syntax.specs.Print.{body_text, name_text, cell_text};
 
+use crate::draft::Draft;
 use crate::level::EXPR;
 use crate::print_expr::push_expr;
 use crate::print_stmt::push_block;
@@ -15,26 +16,26 @@ use std::alloc::{AllocError, Global};
 pub fn print(alloc: Global, cell: &Cell) -> Result<Text, AllocError>
     ensures { IfOk result (λ text. text ≡ cell_text cell.now) }
 {
-    let mut out = String::new(alloc);
+    let mut out = Draft::new(alloc);
     push_name(&mut out, &cell.name)?;
     push_body(&mut out, &cell.body)?;
-    Ok(Text::from_string(out))
+    Ok(out.into_text())
 }
 
-fn push_name(out: &mut String, name: &Option<Text>) -> Result<(), AllocError>
-    ensures { OnOk result (string_bytes out.new ≡ string_bytes out.old ++ name_text name.now) }
+fn push_name(out: &mut Draft, name: &Option<Text>) -> Result<(), AllocError>
+    ensures { OnOk result (out.new ≡ out.old ++ name_text name.now) }
 {
     match name {
         None => Ok(()),
         Some(name) => {
-            out.push_str(name.as_str())?;
-            out.push_str(" = ")
+            out.push(name.as_str())?;
+            out.push(" = ")
         }
     }
 }
 
-fn push_body(out: &mut String, body: &Body) -> Result<(), AllocError>
-    ensures { OnOk result (string_bytes out.new ≡ string_bytes out.old ++ body_text body.now) }
+fn push_body(out: &mut Draft, body: &Body) -> Result<(), AllocError>
+    ensures { OnOk result (out.new ≡ out.old ++ body_text body.now) }
 {
     match body {
         Body::Expr(expr) => push_expr(out, expr, EXPR),

@@ -1,21 +1,22 @@
 //! Quoted texts with their escapes.
 
-ghost use Rattle.std.specs.Prelude.{◌≡◌, ◌++◌, ◌-◌, ◌^◌, OnOk, string_bytes, encode_utf8, length, min};
+ghost use Rattle.std.specs.Prelude.{◌≡◌, ◌++◌, ◌-◌, ◌^◌, OnOk, encode_utf8, length, min};
 ghost use Rattle.nb_syntax.specs.Print.{escape, escaped, quoted_text};
 
+use crate::draft::Draft;
 use std::alloc::AllocError;
 
 /// Adds the text in quotes, with escapes. It takes time linear in the text's bytes.
-pub(crate) fn push_quoted(out: &mut String, text: &str) -> Result<(), AllocError>
-    ensures { OnOk result (string_bytes out.new ≡ string_bytes out.old ++ quoted_text text.now) }
+pub(crate) fn push_quoted(out: &mut Draft, text: &str) -> Result<(), AllocError>
+    ensures { OnOk result (out.new ≡ out.old ++ quoted_text text.now) }
 {
-    out.push_str("\"")?;
+    out.push("\"")?;
     push_escaped(out, text)?;
-    out.push_str("\"")
+    out.push("\"")
 }
 
-fn push_escaped(out: &mut String, text: &str) -> Result<(), AllocError>
-    ensures { OnOk result (string_bytes out.new ≡ string_bytes out.old ++ escaped text.now) }
+fn push_escaped(out: &mut Draft, text: &str) -> Result<(), AllocError>
+    ensures { OnOk result (out.new ≡ out.old ++ escaped text.now) }
 {
     for c in text.chars() {
         push_char(out, c)?;
@@ -24,16 +25,16 @@ fn push_escaped(out: &mut String, text: &str) -> Result<(), AllocError>
 }
 
 #[tactic(auto, using(crate::proofs::Escapes::escaped_char))]
-fn push_char(out: &mut String, c: char) -> Result<(), AllocError>
-    ensures { OnOk result (string_bytes out.new ≡ string_bytes out.old ++ escaped (encode_utf8 c)) }
+fn push_char(out: &mut Draft, c: char) -> Result<(), AllocError>
+    ensures { OnOk result (out.new ≡ out.old ++ escaped (encode_utf8 c)) }
 {
     match c {
-        '"' => out.push_str("\\\""),
-        '\\' => out.push_str("\\\\"),
-        '\n' => out.push_str("\\n"),
-        '\r' => out.push_str("\\r"),
-        '\t' => out.push_str("\\t"),
-        _ => out.push(c),
+        '"' => out.push("\\\""),
+        '\\' => out.push("\\\\"),
+        '\n' => out.push("\\n"),
+        '\r' => out.push("\\r"),
+        '\t' => out.push("\\t"),
+        _ => out.push_char(c),
     }
 }
 

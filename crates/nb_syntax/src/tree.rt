@@ -1,7 +1,8 @@
 use nb_value::{Boxed, Function, Items, Text};
+use std::fmt;
 
 /// The sign of an operator.
-#[derive(Clone, Copy, Debug, PartialEq, Eq)]
+#[derive(Clone, Copy, PartialEq, Eq)]
 pub enum Sign {
     /// `+`
     Plus,
@@ -31,7 +32,7 @@ pub enum Sign {
 
 /// An expression. Brackets round one leave no node.
 #[cycle(tree)]
-#[derive(Debug, Drop)]
+#[derive(Drop)]
 pub enum Expr {
     /// A number. One that was read isn't negative.
     Int(i64),
@@ -66,7 +67,7 @@ pub enum Expr {
 
 /// A key of a record with its value.
 #[cycle(tree)]
-#[derive(Debug, Drop)]
+#[derive(Drop)]
 pub struct Member {
     pub key: Text,
     pub value: Expr,
@@ -74,7 +75,7 @@ pub struct Member {
 
 /// A step into a value.
 #[cycle(tree)]
-#[derive(Debug, Drop)]
+#[derive(Drop)]
 pub enum PathStep {
     /// `.name`
     Field(Text),
@@ -84,7 +85,7 @@ pub enum PathStep {
 
 /// An operator's sign with the part at its right.
 #[cycle(tree)]
-#[derive(Debug, Drop)]
+#[derive(Drop)]
 pub struct Operand {
     pub sign: Sign,
     pub expr: Expr,
@@ -92,14 +93,14 @@ pub struct Operand {
 
 /// Statements in brackets, which are the scope of their `let`s.
 #[cycle(statements)]
-#[derive(Debug, Drop)]
+#[derive(Drop)]
 pub struct Block {
     pub stmts: Items<Stmt>,
 }
 
 /// A test of an `if` with the block that is run where it is true.
 #[cycle(statements)]
-#[derive(Debug, Drop)]
+#[derive(Drop)]
 pub struct Arm {
     pub test: Expr,
     pub body: Block,
@@ -107,7 +108,7 @@ pub struct Arm {
 
 /// A statement.
 #[cycle(statements)]
-#[derive(Debug, Drop)]
+#[derive(Drop)]
 pub enum Stmt {
     /// `let name = value;`
     Let(Text, Expr),
@@ -125,7 +126,7 @@ pub enum Stmt {
 }
 
 /// What a cell computes.
-#[derive(Debug, Drop)]
+#[derive(Drop)]
 pub enum Body {
     Expr(Expr),
     /// In a cell that was read it has at least one statement.
@@ -133,8 +134,17 @@ pub enum Body {
 }
 
 /// A cell, with the name that it defines, if it defines one.
-#[derive(Debug, Drop)]
+#[derive(Drop)]
 pub struct Cell {
     pub name: Option<Text>,
     pub body: Body,
+}
+
+/// A cell shows its name alone.
+impl fmt::Debug for Cell {
+    fn fmt<W: fmt::Write>(&self, f: &mut fmt::Formatter<W>) -> fmt::Result {
+        f.debug_struct("Cell")
+            .field("name", &self.name)
+            .finish_non_exhaustive()
+    }
 }
