@@ -5,7 +5,9 @@ mod IndexLemmas
 mod InputLemmas
 mod MemberLemmas
 mod Calls
+pub mod Wholes
 pub mod Closed
+mod Scopes
 pub mod Yields
 pub mod Endings
 pub mod Spending

@@ -20,7 +20,7 @@ abbrev pub WentTo : (A : Type 0) → (State → Type 0) → Result A Stop → St
 WentTo A P (Ok a) t = P t
 WentTo A P (Err e) t = Unit {0}
 
-if_case : (A : Type 0) (P : Out A → Type 0) (b : Bool) (x y : Out A) → (b ≡ true → P x) → (b ≡ false → P y) → P (if b then x else y)
+pub if_case : (A : Type 0) (P : Out A → Type 0) (b : Bool) (x y : Out A) → (b ≡ true → P x) → (b ≡ false → P y) → P (if b then x else y)
 if_case A P true x y hx hy = hx refl
 if_case A P false x y hx hy = hy refl
 
@@ -69,7 +69,7 @@ module _ (g : Segment) where
     right t (Ok a) h k = on_right B s t (f a t).1 (f a t).0 h (k a t)
     right t (Err e) h k = tt
 
-  pays_same : (s t : State) → t.charges ≡ s.charges → t.fuel ≡ s.fuel → t.yields ≡ s.yields → Pays s t
+  pub pays_same : (s t : State) → t.charges ≡ s.charges → t.fuel ≡ s.fuel → t.yields ≡ s.yields → Pays s t
   pays_same s t c f y = let b : budget g t ≡ budget g s = cc in (omega arith, omega arith)
 
   paid : (n : ℕ) (s : State) → nat_lt s.fuel (1 + n) ≡ false → PaysMore s (record s { fuel = s.fuel - (1 + n); charges = s.charges + 1 })

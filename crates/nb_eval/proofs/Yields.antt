@@ -1,6 +1,6 @@
 -- An evaluation that pauses has yielded as often as it was pulled, and any other less often; a cell that is no generator
 -- doesn't pause.
-use Rattle.std.proofs.Common.{◌≡◌, ◌≢◌, ℕ, suc, ◌+◌, ◌-◌, ◌<◌, ◌≤◌, Bool, true, false, [], ◌∷◌, ◌++◌, List, length, Option, Some, None, Result, Ok, Err, refl, arith, codes, length-append, ◌⊎◌, inl, inr}
+use Rattle.std.proofs.Common.{◌≡◌, ◌≢◌, ℕ, suc, ◌+◌, ◌-◌, ◌<◌, ◌≤◌, Bool, true, false, [], ◌∷◌, ◌++◌, List, length, Option, Some, None, Result, Ok, Err, refl, arith, codes, length-append}
 use Rattle.std.specs.Prelude.{slice_get, nat_lt, if◌then◌else◌}
 use Rattle.std.proofs.lemmas.Bool.Decides.{nat_tests}
 use Rattle.nb_value.specs.declared.value.Value.{Value}
@@ -11,7 +11,6 @@ use Rattle.nb_value.specs.declared.outcome.ErrorKind.TheVariants.{TooLarge}
 use Rattle.nb_value.specs.Value.{size}
 use Rattle.nb_syntax.specs.declared.tree.Cell.{Cell}
 use Rattle.nb_syntax.specs.Generator.{is_generator}
-use Rattle.nb_eval.specs.declared.given.Ending.{Ending}
 use Rattle.nb_eval.specs.declared.given.Ending.TheVariants as ending
 use Rattle.nb_eval.specs.declared.given.Segment.{Segment}
 use Rattle.nb_eval.specs.declared.state.State.{State}

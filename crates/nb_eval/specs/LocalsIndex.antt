@@ -1,8 +1,7 @@
--- What ties an index of names to the locals: for each name its last place, and for each local the place that it shadows.
-use Rattle.std.specs.Prelude.{◌≡◌, ℕ, ◌+◌, Bool, List, [], ◌∷◌, ◌++◌, Option, Some, None, String, if◌then◌else◌}
-use Rattle.std.specs.Global.{Global}
+-- What ties the names of the locals to their places: each name that a local has had has a number, under which stands the
+-- name's last place; and each local has the number of its name, and the place that it shadows.
+use Rattle.std.specs.Prelude.{◌≡◌, ◌<◌, ℕ, ◌+◌, Bool, List, [], ◌∷◌, ◌++◌, length, map, get_or, Option, Some, None, if◌then◌else◌}
 use Rattle.std.specs.Str.{bytes_eq}
-use Rattle.std.specs.BTreeMap.{BTreeMap, get_by_text}
 
 -- a later place, else 0 where the first name is the same
 abbrev pub later_or : Option ℕ → Bool → Option ℕ
@@ -19,11 +18,20 @@ abbrev pub shadowed_after : List (List ℕ) → List (List ℕ) → List (Option
 shadowed_after seen [] = []
 shadowed_after seen (n ∷ ns) = last_place n seen ∷ shadowed_after (seen ++ n ∷ []) ns
 
--- the index of names, beside what each shadows
-pub record IsIndexed (names : List (List ℕ)) (outers : List (Option ℕ)) (index : BTreeMap (String Global) ℕ) : Type 0 where
-  pub places : (name : List ℕ) → get_by_text index name ≡ last_place name names
-  pub shadows : outers ≡ shadowed_after [] names
+-- what stands under a number, where there is one
+abbrev pub under : List (Option ℕ) → Option ℕ → Option ℕ
+under tops None = None
+under tops (Some k) = get_or tops k None
 
--- a name stands at a place, or at none, and other names where they stood
-abbrev pub Sets : BTreeMap (String Global) ℕ → BTreeMap (String Global) ℕ → List ℕ → Option ℕ → Type 0
-Sets old new name at = (other : List ℕ) → get_by_text new other ≡ (if bytes_eq name other then at else get_by_text old other)
+-- the names of the locals, the number of each and what each shadows, beside the numbers of all names that there have been
+-- and what stands under them
+pub record IsIndexed (names : List (List ℕ)) (numbers : List ℕ) (outers : List (Option ℕ)) (number : List ℕ → Option ℕ) (tops : List (Option ℕ)) : Type 0 where
+  pub places : (name : List ℕ) → under tops (number name) ≡ last_place name names
+  pub shadows : outers ≡ shadowed_after [] names
+  pub numbered : map number names ≡ map Some numbers
+  pub below : (name : List ℕ) (k : ℕ) → number name ≡ Some k → k < length tops
+  pub apart : (a b : List ℕ) (k : ℕ) → number a ≡ Some k → number b ≡ Some k → a ≡ b
+
+-- a name has a number, and other names what they had
+abbrev pub Sets : (List ℕ → Option ℕ) → (List ℕ → Option ℕ) → List ℕ → ℕ → Type 0
+Sets old new name k = (other : List ℕ) → new other ≡ (if bytes_eq name other then Some k else old other)

@@ -1,5 +1,5 @@
-//! Expressions. Each call takes time in proportion to what it charges, up to a logarithm, and stack that grows with the
-//! depth of the tree.
+//! Expressions. Each call takes time in proportion to what it charges and to the bytes of the names that it looks up, up to a
+//! logarithm, and stack that grows with the depth of the tree.
 
 ghost use Rattle.std.specs.Prelude.{◌≡◌, ◌≢◌, [], map, OnOk};
 ghost use Rattle.nb_eval.specs.Run.{Meets, HasRoom, Spends, SpendsAtMost};

@@ -1,21 +1,22 @@
-//! The locals of an evaluation, with an index of their names.
+//! The locals of an evaluation, with numbers for their names.
 
-ghost use Rattle.std.specs.Prelude.{◌≡◌, ◌∷◌, ◌++◌, [], ◌<◌, ◌-◌, ◌≢◌, List, ℕ, length, map, take, slice_get, slice_set, string_bytes, OnOk, OnErr};
+ghost use Rattle.std.specs.Prelude.{◌≡◌, ◌∷◌, ◌++◌, [], ◌<◌, ◌-◌, List, ℕ, Option, length, map, take, slice_get, slice_set, string_bytes, IfOk, OnOk, OnErr};
 ghost use Rattle.std.specs.Option.{option_copied};
 ghost use Rattle.std.specs.BTreeMap.{get_by_text};
 ghost use Rattle.nb_value.specs.Fields.{names};
 ghost use Rattle.nb_eval.specs.Locals.{name_value, place, local_of};
-ghost use Rattle.nb_eval.specs.LocalsIndex.{IsIndexed, Sets};
+ghost use Rattle.nb_eval.specs.LocalsIndex.{IsIndexed, Sets, under};
 
 use nb_value::{Field, Text, Value};
 use std::alloc::{AllocError, Global};
 use std::collections::BTreeMap;
 use std::marker::Model;
 
-// A local, with the place of the one that it shadows.
+// A local, with the number of its name and the place of the local that it shadows.
 #[derive(Debug, Drop)]
 struct Local {
     field: Field<Value>,
+    number: usize,
     outer: Option<usize>,
 }
 
@@ -23,11 +24,15 @@ struct Local {
 #[derive(Debug, Drop)]
 pub struct Locals {
     list: Vec<Local>,
-    index: BTreeMap<String, usize>,
+    // A number for each name that a local has had, so that no name is looked up twice for one local.
+    numbers: BTreeMap<String, usize>,
+    // Under each number the place of the name's innermost local.
+    tops: Vec<Option<usize>>,
 }
 
 impl Model for Locals {
     ghost use Rattle.std.specs.Prelude.{List, map};
+    ghost use Rattle.std.specs.BTreeMap.{get_by_text};
     ghost use Rattle.nb_value.specs.Fields.{names, fields_code};
     ghost use Rattle.nb_value.specs.contracts.value.Value as row;
     ghost use Rattle.nb_value.specs.declared.pairs.Field.{Field};
@@ -40,7 +45,7 @@ impl Model for Locals {
 
     ghost view = { λ it. map (λ l. l.field) it.list.items };
 
-    ghost invariant = { λ it. IsIndexed (names (map (λ l. l.field) it.list.items)) (map (λ l. l.outer) it.list.items) it.index };
+    ghost invariant = { λ it. IsIndexed (names (map (λ l. l.field) it.list.items)) (map (λ l. l.number) it.list.items) (map (λ l. l.outer) it.list.items) (get_by_text it.numbers) it.tops.items };
 }
 
 impl Locals {
@@ -50,7 +55,8 @@ impl Locals {
     {
         Locals {
             list: Vec::new(alloc),
-            index: BTreeMap::new(alloc),
+            numbers: BTreeMap::new(alloc),
+            tops: Vec::new(alloc),
         }
     }
 
@@ -62,11 +68,11 @@ impl Locals {
     }
 
     /// The place of the innermost local of this name. It takes no memory, and as many comparisons as the logarithm of
-    /// the number of locals.
+    /// the number of names that locals have had.
     pub fn place(&self, name: &str) -> Option<usize>
         ensures { result ≡ place name.now self.now }
     {
-        self.index.get(name).copied()
+        under(self.tops.as_slice(), self.numbers.get(name).copied())
     }
 
     fn get(&self, at: usize) -> Option<&Field<Value>>
@@ -93,10 +99,16 @@ impl Locals {
         ensures ok { OnOk result (self.new ≡ self.old ++ field ∷ []) }
         ensures err { OnErr result (self.new ≡ self.old) }
     {
-        add(alloc, &mut self.list, &mut self.index, field)
+        add(
+            alloc,
+            &mut self.list,
+            &mut self.numbers,
+            &mut self.tops,
+            field,
+        )
     }
 
-    /// Moves a value into the innermost local of a name. It takes no memory.
+    /// Moves a value into the innermost local of a name, without a look-up. It takes no memory.
     pub fn set(&mut self, at: usize, name: &str, value: Value)
         requires { place name.now self.old ≡ Some at }
         ensures { self.new ≡ slice_set self.old at (name_value name.now value) }
@@ -104,90 +116,117 @@ impl Locals {
         write(&mut self.list, at, value);
     }
 
-    /// Drops what stands after the first `len` locals, in the time of a look-up for each. It takes no memory.
+    /// Drops what stands after the first `len` locals, without a look-up. It takes no memory.
     pub fn truncate(&mut self, len: usize)
         ensures { self.new ≡ take len self.old }
     {
-        cut(&mut self.list, &mut self.index, len);
+        cut(&mut self.list, &mut self.tops, len);
     }
 }
 
-// The locals and their index with one local more.
+// What stands under a number, where there is one.
+fn under(tops: &[Option<usize>], number: Option<usize>) -> Option<usize>
+    ensures { result ≡ under tops.now number }
+{
+    match number {
+        Some(number) => tops.get(number).copied().flatten(),
+        None => None,
+    }
+}
+
+// The locals with one more.
 fn add(
     alloc: Global,
     list: &mut Vec<Local>,
-    index: &mut BTreeMap<String, usize>,
+    numbers: &mut BTreeMap<String, usize>,
+    tops: &mut Vec<Option<usize>>,
     field: Field<Value>,
 ) -> Result<(), AllocError>
-    requires { IsIndexed (names (map (λ l. l.field) list.old.items)) (map (λ l. l.outer) list.old.items) index.old }
-    ensures indexed { IsIndexed (names (map (λ l. l.field) list.new.items)) (map (λ l. l.outer) list.new.items) index.new }
+    requires { IsIndexed (names (map (λ l. l.field) list.old.items)) (map (λ l. l.number) list.old.items) (map (λ l. l.outer) list.old.items) (get_by_text numbers.old) tops.old.items }
+    ensures indexed { IsIndexed (names (map (λ l. l.field) list.new.items)) (map (λ l. l.number) list.new.items) (map (λ l. l.outer) list.new.items) (get_by_text numbers.new) tops.new.items }
     ensures ok { OnOk result (map (λ l. l.field) list.new.items ≡ map (λ l. l.field) list.old.items ++ field ∷ []) }
     ensures err { OnErr result (map (λ l. l.field) list.new.items ≡ map (λ l. l.field) list.old.items) }
 {
-    let key = String::from_str(alloc, field.name.as_str())?;
+    let number = number_of(alloc, numbers, tops, field.name.as_str())?;
     let at = list.len();
-    let outer = index.get(field.name.as_str()).copied();
-    list.push(Local { field, outer })?;
-    if let Err(refused) = point(index, key, at) {
-        list.pop();
-        return Err(refused);
-    }
+    let outer = under(tops.as_slice(), Some(number));
+    list.push(Local {
+        field,
+        number,
+        outer,
+    })?;
+    put_under(tops, number, Some(at));
     Ok(())
 }
 
-// Puts a place at a name.
-fn point(index: &mut BTreeMap<String, usize>, name: String, at: usize) -> Result<(), AllocError>
-    ensures ok { OnOk result (Sets index.old index.new (string_bytes name) (Some at)) }
-    ensures err { OnErr result ((other : List ℕ) → get_by_text index.new other ≡ get_by_text index.old other) }
+// The number of a name, which gets the next one where it has none. What was numbered stays so.
+fn number_of(
+    alloc: Global,
+    numbers: &mut BTreeMap<String, usize>,
+    tops: &mut Vec<Option<usize>>,
+    name: &str,
+) -> Result<usize, AllocError>
+    ensures known { IfOk result (λ number. get_by_text numbers.new name.now ≡ Some number) }
+    ensures kept { (names : List (List ℕ)) (numbered : List ℕ) (outers : List (Option ℕ)) → IsIndexed names numbered outers (get_by_text numbers.old) tops.old.items → IsIndexed names numbered outers (get_by_text numbers.new) tops.new.items }
 {
-    index.insert(name, at)?;
+    if let Some(number) = numbers.get(name) {
+        return Ok(*number);
+    }
+    let key = String::from_str(alloc, name)?;
+    let number = tops.len();
+    tops.push(None)?;
+    point(numbers, key, number)?;
+    Ok(number)
+}
+
+// Gives a name a number.
+fn point(
+    numbers: &mut BTreeMap<String, usize>,
+    name: String,
+    number: usize,
+) -> Result<(), AllocError>
+    ensures ok { OnOk result (Sets (get_by_text numbers.old) (get_by_text numbers.new) (string_bytes name) number) }
+    ensures err { OnErr result ((other : List ℕ) → get_by_text numbers.new other ≡ get_by_text numbers.old other) }
+{
+    numbers.insert(name, number)?;
     Ok(())
+}
+
+// Puts a place under a number.
+fn put_under(tops: &mut Vec<Option<usize>>, number: usize, top: Option<usize>)
+    ensures { tops.new.items ≡ slice_set tops.old.items number top }
+{
+    if let Some(old) = tops.get_mut(number) {
+        *old = top;
+    }
 }
 
 // Puts a value into the local at a place.
 fn write(list: &mut Vec<Local>, at: usize, value: Value)
     requires { at < length list.old.items }
+    ensures numbers { map (λ l. l.number) list.new.items ≡ map (λ l. l.number) list.old.items }
     ensures outers { map (λ l. l.outer) list.new.items ≡ map (λ l. l.outer) list.old.items }
     ensures fields { (name : List ℕ) → slice_get (names (map (λ l. l.field) list.old.items)) at ≡ Some name → map (λ l. l.field) list.new.items ≡ slice_set (map (λ l. l.field) list.old.items) at (name_value name value) }
 {
     list[at].field.value = value;
 }
 
-// Puts a place at a name that has one, or takes it away.
-fn restore(index: &mut BTreeMap<String, usize>, name: &str, outer: Option<usize>)
-    requires { get_by_text index.old name.now ≢ None }
-    ensures { Sets index.old index.new name.now outer }
-{
-    match outer {
-        Some(at) => {
-            if let Some(place) = index.get_mut(name) {
-                *place = at;
-            }
-        }
-        None => {
-            index.remove(name);
-        }
-    }
-}
-
-// The first `len` locals with their index.
-fn cut(list: &mut Vec<Local>, index: &mut BTreeMap<String, usize>, len: usize)
-    requires { IsIndexed (names (map (λ l. l.field) list.old.items)) (map (λ l. l.outer) list.old.items) index.old }
-    ensures indexed { IsIndexed (names (map (λ l. l.field) list.new.items)) (map (λ l. l.outer) list.new.items) index.new }
+// The first `len` locals.
+fn cut(list: &mut Vec<Local>, tops: &mut Vec<Option<usize>>, len: usize)
+    ensures indexed { (number : List ℕ → Option ℕ) → IsIndexed (names (map (λ l. l.field) list.old.items)) (map (λ l. l.number) list.old.items) (map (λ l. l.outer) list.old.items) number tops.old.items → IsIndexed (names (map (λ l. l.field) list.new.items)) (map (λ l. l.number) list.new.items) (map (λ l. l.outer) list.new.items) number tops.new.items }
     ensures cut { map (λ l. l.field) list.new.items ≡ take len (map (λ l. l.field) list.old.items) }
 {
     while list.len() > len {
-        drop_last(list, index);
+        drop_last(list, tops);
     }
 }
 
-// All locals but the last, with their index.
-fn drop_last(list: &mut Vec<Local>, index: &mut BTreeMap<String, usize>)
-    requires { IsIndexed (names (map (λ l. l.field) list.old.items)) (map (λ l. l.outer) list.old.items) index.old }
-    ensures indexed { IsIndexed (names (map (λ l. l.field) list.new.items)) (map (λ l. l.outer) list.new.items) index.new }
+// All locals but the last: what that one shadowed is its name's innermost again.
+fn drop_last(list: &mut Vec<Local>, tops: &mut Vec<Option<usize>>)
+    ensures indexed { (number : List ℕ → Option ℕ) → IsIndexed (names (map (λ l. l.field) list.old.items)) (map (λ l. l.number) list.old.items) (map (λ l. l.outer) list.old.items) number tops.old.items → IsIndexed (names (map (λ l. l.field) list.new.items)) (map (λ l. l.number) list.new.items) (map (λ l. l.outer) list.new.items) number tops.new.items }
     ensures rest { list.new.items ≡ take (length list.old.items - 1) list.old.items }
 {
-    if let Some(Local { field, outer }) = list.pop() {
-        restore(index, field.name.as_str(), outer);
+    if let Some(Local { number, outer, .. }) = list.pop() {
+        put_under(tops, number, outer);
     }
 }

@@ -1,7 +1,8 @@
 //! Names: locals and inputs.
 
 ghost use Rattle.std.specs.Prelude.{◌≡◌, ◌≢◌};
-ghost use Rattle.nb_eval.specs.Run.{Meets, Quiet, read, keep, assign};
+ghost use Rattle.nb_eval.specs.Locals.{HasNext};
+ghost use Rattle.nb_eval.specs.Run.{Meets, Quiet, read, keep, assign, cut_to};
 
 use crate::given::Segment;
 use crate::inputs::input_of;
@@ -32,6 +33,26 @@ pub fn keep(alloc: Global, state: &mut State, name: &Text, value: Value) -> Resu
 {
     let name = name.copy(alloc)?;
     state.locals.push(alloc, Field { name, value })?;
+    Ok(())
+}
+
+/// The local of a turn, which is the last: where it stands from the turn before it, the value is moved into it, with no pass
+/// over the name, and else it is made. It fails only without memory.
+pub fn keep_at(
+    alloc: Global,
+    state: &mut State,
+    at: usize,
+    name: &Text,
+    value: Value,
+) -> Result<(), Stop>
+    requires { HasNext name.now at state.old.locals }
+    ensures gives { Meets result state.new (keep name.now value (cut_to at state.old).1) }
+    ensures quiet { Quiet state.old state.new }
+{
+    if state.locals.len() == at {
+        return keep(alloc, state, name, value);
+    }
+    state.locals.set(at, name.as_str(), value);
     Ok(())
 }
 

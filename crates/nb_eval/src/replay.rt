@@ -18,6 +18,7 @@ use std::alloc::{AllocError, Global};
 
 /// The evaluation of a segment, by replay from its start. It takes memory in proportion to what the evaluation charges,
 /// and time in proportion to that, up to a logarithm: of the number of names, or in `sort` of the number of items.
+/// The length of names isn't charged: each look-up of a name compares it, each `let` copies it, and a `for` copies it once.
 /// Where memory ran out, the segment comes back.
 pub fn evaluate(alloc: Global, segment: Segment) -> Result<Finished, (Segment, AllocError)>
     ensures { MatchResult result (λ f. f.segment ≡ segment) (λ e. e.0 ≡ segment) }

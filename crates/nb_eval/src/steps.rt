@@ -1,9 +1,9 @@
 //! Errors and charges.
 
-ghost use Rattle.std.specs.Prelude.{◌≡◌, ◌≢◌, ◌+◌, ◌<◌, ◌^◌, IfOk, OnOk};
+ghost use Rattle.std.specs.Prelude.{◌≡◌, ◌≢◌, ◌+◌, ◌<◌, ◌^◌, IfOk, OnOk, OnErr};
 ghost use Rattle.std.specs.Fmt.{take_chars};
 ghost use Rattle.nb_value.specs.Value.{size};
-ghost use Rattle.nb_eval.specs.Run.{Meets, Gives, HasRoom, Spends, error, charge, tick, done, truth_of, items_of, within_depth};
+ghost use Rattle.nb_eval.specs.Run.{Meets, Gives, HasRoom, Spends, error, charge, tick, done, cut_to, truth_of, items_of, within_depth};
 
 use crate::given::Segment;
 use crate::state::State;
@@ -87,6 +87,26 @@ pub fn charge_statement(alloc: Global, given: &Segment, state: &mut State) -> Re
     ensures spends { OnOk result (Spends given.now state.old state.new) }
 {
     charge_one_and(alloc, state, 0)
+}
+
+/// The charge of a turn of a `for`. Where it fails, the locals past the first `len` end before it. It takes no memory.
+pub fn charge_turn(
+    alloc: Global,
+    given: &Segment,
+    state: &mut State,
+    len: usize,
+) -> Result<(), Stop>
+    requires { HasRoom given.now state.old }
+    ensures ok { OnOk result (tick state.old ≡ (Ok tt, state.new)) }
+    ensures err { OnErr result (tick (cut_to len state.old).1 ≡ (result, state.new)) }
+    ensures memory { result ≢ Err Stop.Memory }
+    ensures spends { OnOk result (Spends given.now state.old state.new) }
+{
+    let charged = charge_statement(alloc, given, state);
+    if charged.is_err() {
+        state.locals.truncate(len);
+    }
+    charged
 }
 
 /// The value of a node, with its charge. It takes no memory, and time linear in the size.

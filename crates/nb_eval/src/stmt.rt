@@ -1,5 +1,5 @@
-//! Statements. Each call takes time in proportion to what it charges, up to a logarithm, and stack that grows with the
-//! depth of the tree.
+//! Statements. Each call takes time in proportion to what it charges and to the bytes of the names that it looks up, up to a
+//! logarithm, and stack that grows with the depth of the tree.
 
 ghost use Rattle.std.specs.Prelude.{◌≡◌, ◌≢◌, map, OnOk};
 ghost use Rattle.std.specs.Option.{option_map};
@@ -9,9 +9,9 @@ ghost use Rattle.nb_eval.specs.Evaluation.{eval, choose, ran, loop, each, in_ord
 use crate::effects::{cleaned, thrown, yielded};
 use crate::expr::eval_expr;
 use crate::given::Segment;
-use crate::names::{assign, keep};
+use crate::names::{assign, keep, keep_at};
 use crate::state::State;
-use crate::steps::{as_items, as_truth, charge_statement};
+use crate::steps::{as_items, as_truth, charge_statement, charge_turn};
 use crate::stop::Stop;
 use nb_syntax::{Arm, Block, Expr, Stmt};
 use nb_value::{Items, Text, Value};
@@ -101,7 +101,8 @@ fn exec_while(
     }
 }
 
-// A turn for each item, which is copied into its local.
+// A turn for each item, which is copied into the local of the loop. That local stands from the first turn to the end of
+// the loop, so that a turn takes no look-up and no copy of the name.
 #[cycle(exec)]
 fn exec_for(
     body: &Block,
@@ -115,13 +116,13 @@ fn exec_for(
     ensures gives { Meets result state.new (each name.now (act_block given.now body.now) items.now state.old) }
     ensures spends { OnOk result (SpendsAtMost given.now state.old state.new) }
 {
+    let len = state.locals.len();
     for item in items.as_slice() {
-        charge_statement(alloc, given, state)?;
-        let len = state.locals.len();
-        keep(alloc, state, name, item.copy(alloc)?)?;
+        charge_turn(alloc, given, state, len)?;
+        keep_at(alloc, state, len, name, item.copy(alloc)?)?;
         exec_block(body, alloc, given, state)?;
-        state.locals.truncate(len);
     }
+    state.locals.truncate(len);
     Ok(())
 }
 

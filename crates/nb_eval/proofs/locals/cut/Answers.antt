@@ -1,4 +1,4 @@
-use Rattle.std.proofs.Common.{◌≡◌, ◌∙◌, ◌≤◌, sym, ap, map, length, arith}
+use Rattle.std.proofs.Common.{◌∙◌, ◌≤◌, sym, ap, map, length, arith}
 use Rattle.std.proofs.lemmas.List.{take_all, take-map}
 use Rattle.nb_eval.specs.declared.locals.Local.{Local}
 use Rattle.nb_eval.proofs.locals.cut.Goals as goal

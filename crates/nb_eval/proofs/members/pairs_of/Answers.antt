@@ -1,4 +1,4 @@
-use Rattle.std.proofs.Common.{◌≡◌, ◌++◌, ◌∙◌, ap, sym, subst}
+use Rattle.std.proofs.Common.{◌++◌, ◌∙◌, ap, sym, subst}
 use Rattle.nb_value.specs.Fields.{IsInOrder, CanFollow}
 use Rattle.nb_eval.specs.Members.{member_of, members_of}
 use Rattle.nb_eval.proofs.MemberLemmas.{in_order, follows}

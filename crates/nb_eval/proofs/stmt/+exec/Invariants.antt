@@ -1,7 +1,9 @@
 -- What is left to do, from here, is the whole from the start.
 use Rattle.std.proofs.Common.{◌≡◌, ◌≤◌, ℕ, suc, map, drop}
+use Rattle.nb_eval.specs.Locals.{HasNext}
 use Rattle.nb_eval.specs.Run.{SpendsAtMost, budget}
 use Rattle.nb_eval.specs.Evaluation.{eval, ran, loop, turns, each, in_order, act, arm, act_block}
+use Rattle.nb_eval.proofs.Turns.{cut}
 use Rattle.nb_eval.proofs.stmt.+exec.Given as goal
 
 abbrev pub invariant-exec_arms-loop-arm : goal.invariant-exec_arms-loop-arm
@@ -12,7 +14,8 @@ invariant-exec_arms-loop-arm l = record {
 
 abbrev pub invariant-exec_for-loop-item : goal.invariant-exec_for-loop-item
 invariant-exec_for-loop-item l = record {
-  same : each l.name (act_block l.given l.body) (drop l.item-index l.item-items) l.state ≡ each l.name (act_block l.given l.body) l.items l.fn.state;
+  same : each l.name (act_block l.given l.body) (drop l.item-index l.item-items) (cut l.len l.state) ≡ each l.name (act_block l.given l.body) l.items l.fn.state;
+  next : HasNext l.name l.len l.state.locals;
   spends : SpendsAtMost l.given l.fn.state l.state;
 }
 

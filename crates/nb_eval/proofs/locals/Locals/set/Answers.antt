@@ -1,5 +1,6 @@
-use Rattle.std.proofs.Common.{◌≡◌, ◌∙◌, ◌<◌, sym, ap, subst₂, map, length, slice_get, slice_set, Some, arith}
+use Rattle.std.proofs.Common.{◌∙◌, sym, ap, subst, subst₂, map, slice_set, arith}
 use Rattle.std.proofs.lemmas.List.{length-map}
+use Rattle.std.specs.BTreeMap.{get_by_text}
 use Rattle.nb_value.specs.Fields.{names}
 use Rattle.nb_eval.specs.declared.locals.Local.{Local}
 use Rattle.nb_eval.specs.Locals.{name_value, place}
@@ -21,7 +22,12 @@ invariant_of-self c =
     let list = map (λ (l : Local). l.field) c.self.inside.list.items in
     let there = named name (names list) c.args.at (sym (place-last name list) ∙ ap (place name) c.self.view_is ∙ c.requires) in
     let same = ap names (c.write.ensures.fields name there) ∙ names-set list c.args.at name c.args.value there in
-    subst₂ (λ ns os. IsIndexed ns os c.self.inside.index) (sym same) (sym c.write.ensures.outers) c.self.invariant
+    let old = c.self.inside.list.items in
+    let new = c.write.new.list.items in
+    let number = get_by_text c.self.inside.numbers in
+    let tops = c.self.inside.tops.items in
+    let numbered = subst (λ ks. IsIndexed (names list) ks (map (λ (l : Local). l.outer) old) number tops) (sym c.write.ensures.numbers) c.self.invariant in
+    subst₂ (λ ns os. IsIndexed ns (map (λ (l : Local). l.number) new) os number tops) (sym same) (sym c.write.ensures.outers) numbered
 
 pub returns : goal.returns
 returns c =
