@@ -1,2 +1,1 @@
 mod There
-mod Admitted

@@ -12,6 +12,7 @@ use nb_value::Tree;
 use std::alloc::{AllocError, Global};
 
 /// A derive of a module, with the modules that it copies, and the number of the first copy.
+#[derive(Drop)]
 struct Plan<'a> {
     next: u32,
     rows: &'a [VarRow],

@@ -1,8 +1,8 @@
 //! The modules and variables that a derive makes.
 #![tactic(auto)]
 
-mod apply;
 mod copying;
+mod edits;
 
-pub use apply::apply;
 pub use copying::derived;
+pub use edits::apply;

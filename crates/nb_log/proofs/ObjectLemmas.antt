@@ -1,5 +1,5 @@
 -- The fields of a settlement: which fetch it answers, and what it says. The specifiers of a derive as an array.
-use Rattle.std.proofs.Common.{◌≡◌, ℕ, ◌++◌, List, [], ◌∷◌, map, length, codes, refl, ap, ◌∙◌, append_assoc, append-nil, arith}
+use Rattle.std.proofs.Common.{◌≡◌, ℕ, List, [], ◌∷◌, map, length, codes, refl, append_assoc, append-nil, arith}
 use Rattle.nb_value.specs.declared.value.Value.{Value}
 use Rattle.nb_value.specs.declared.value.Value.TheVariants as V
 use Rattle.nb_value.specs.declared.outcome.Answer.TheVariants.{Value as Given, Failure}
@@ -9,8 +9,7 @@ use Rattle.nb_value.specs.Json.{json_text}
 use Rattle.nb_sheet.specs.declared.edit.Specifier.{Specifier}
 use Rattle.nb_log.specs.Printing.{field, settle_fields, specifier_object}
 use Rattle.nb_log.specs.Objects.{target_field}
-use Rattle.nb_log.specs.Pieces.{items_after}
-use Rattle.nb_log.proofs.PieceLemmas.{record_json, empty_json, list_json}
+use Rattle.nb_log.proofs.PieceLemmas.{record_json, empty_json}
 
 pub settle_value : (target : Target) (x : Value) → settle_fields target (Given x) ≡ field (codes "do") (V.Text (codes "settle")) ∷ target_field target ∷ field (codes "value") x ∷ []
 settle_value (Ticket t) x = refl
@@ -25,7 +24,3 @@ pub ruleset settlements = (settle_value, settle_failure, record_json, append_ass
 pub no_specifiers : (specifiers : List Specifier) → length specifiers ≡ 0 → json_text (V.List (map specifier_object specifiers)) ≡ 91 ∷ 93 ∷ []
 no_specifiers [] h = empty_json
 no_specifiers (s ∷ specifiers) h = absurd (omega (arith, h))
-
-pub some_specifiers : (specifiers : List Specifier) (s : Specifier) (others : List Specifier) → specifiers ≡ s ∷ others
-    → json_text (V.List (map specifier_object specifiers)) ≡ 91 ∷ (json_text (specifier_object s) ++ (items_after (map specifier_object others) ++ 93 ∷ []))
-some_specifiers specifiers s others e = ap (λ (l : List Specifier). json_text (V.List (map specifier_object l))) e ∙ list_json (specifier_object s) (map specifier_object others)

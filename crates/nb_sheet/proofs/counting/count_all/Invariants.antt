@@ -1,4 +1,4 @@
-use Rattle.std.proofs.Common.{◌≡◌, ◌≤◌, ◌+◌, ◌-◌, ◌^◌, map, min, drop}
+use Rattle.std.proofs.Common.{length, ◌≡◌, ◌≤◌, ◌+◌, ◌-◌, ◌^◌, map, min, drop}
 use Rattle.nb_sheet.specs.Derive.{module_copy, variables_of}
 use Rattle.nb_sheet.proofs.counting.count_all.Given as goal
 
