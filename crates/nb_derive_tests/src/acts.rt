@@ -24,6 +24,7 @@ pub enum Act {
 }
 
 /// What a body is: the text of a cell, a name of a module, or none.
+#[derive(Clone, Copy)]
 pub enum Is {
     Cell(&'static str),
     From(&'static str, u32),
