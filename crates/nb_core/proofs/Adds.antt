@@ -1,6 +1,6 @@
 -- The event of an added observed cell: when it is refused, and what it leaves.
 use Rattle.std.proofs.Common.{inl, inr, ℕ, ◌≡◌, ◌+◌, ◌-◌, ◌<◌, ◌≤◌, refl, sym, ◌∙◌, ap, subst, Bool, true, List, [], ◌∷◌, ◌++◌, length, length-append, replicate, arith, Option, Some, None, option_map}
-use Rattle.std.proofs.lemmas.Bool.{cases_lt, le-ltb, lt-ltb, le-leb}
+use Rattle.std.proofs.lemmas.Bool.{le-ltb, lt-ltb}
 use Rattle.std.proofs.lemmas.Option.{none-some}
 use Rattle.nb_value.specs.declared.value.Value.{Value}
 use Rattle.nb_value.specs.declared.pairs.Field.{Field}
@@ -14,9 +14,8 @@ use Rattle.nb_log.specs.declared.event.Event.TheVariants.{Edit as EditEvent}
 use Rattle.nb_log.specs.declared.entry.Refusal.{Refusal}
 use Rattle.nb_log.specs.declared.entry.Refusal.TheVariants.{LogFull}
 use Rattle.nb_log.specs.Refused.{refusal_of}
-use Rattle.nb_sheet.specs.Sheet.{refusal, where_true}
+use Rattle.nb_sheet.specs.Sheet.{refusal}
 use Rattle.nb_sheet.specs.declared.refused.Refused.{Refused as SheetRefused}
-use Rattle.nb_sheet.specs.declared.refused.Refused.TheVariants.{TooManyVariables}
 use Rattle.nb_log.specs.declared.entry.Entry.{Entry}
 use Rattle.nb_log.specs.declared.entry.Entry.TheVariants.{Edit, Refused}
 use Rattle.nb_sheet.specs.Lists.{from_option, or_else}
@@ -27,6 +26,7 @@ use Rattle.nb_history.proofs.Histories.{legal_append}
 use Rattle.nb_core.specs.State.{sheet_of, reading_of, is_cell, row_of, IsBare, IsState, IsQuietLog}
 use Rattle.nb_core.proofs.States.{of_log, stands_after}
 use Rattle.nb_history.proofs.EditedRows.{nth_push}
+use Rattle.nb_sheet.proofs.Adds.{few_variables}
 use Rattle.nb_core.proofs.Begins.{older_bare}
 
 abbrev pub adding : Cell → Event
@@ -57,11 +57,7 @@ module _ (builtins : List (Field Value)) (rows : List VarRow) (starts : List (Op
 
 -- a sheet that takes one more variable has fewer than 1,024
 pub few_rows : (builtins : List (Field Value)) (rows : List VarRow) (cell : Cell) → refusal (sheet_of builtins rows) (AddCell 0 cell true) ≡ None → length rows < 1024
-few_rows builtins rows cell clear =
-    elim (cases_lt (length rows) 1024) [
-      | inl few ↦ few
-      | inr many ↦ absurd (none-some TooManyVariables (sym clear ∙ ap (λ (b : Bool). where_true b TooManyVariables) (le-leb 1024 (length rows) many)))
-    ]
+few_rows builtins rows cell clear = omega (arith, few_variables (sheet_of builtins rows) 1 clear)
 
 -- ---- a refused event changes nothing else
 
