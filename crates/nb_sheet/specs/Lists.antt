@@ -1,5 +1,5 @@
 -- Words on lists whose places are counted from 1, and on what may be there or not.
-use Rattle.std.specs.Prelude.{ℕ, zero, suc, ◌+◌, Bool, false, cond, List, [], ◌∷◌, length, Option, Some, None, slice_get}
+use Rattle.std.specs.Prelude.{ℕ, zero, suc, ◌+◌, Bool, false, cond, List, [], ◌∷◌, length, Option, Some, None, slice_get, set}
 use Rattle.std.specs.List.{range_with_len}
 use Rattle.std.specs.Str.{bytes_eq}
 
@@ -8,16 +8,10 @@ abbrev pub nth : {A : Type 0} → List A → ℕ → Option A
 nth xs zero = None
 nth xs (suc i) = slice_get xs i
 
--- the list with another element in place of the i-th, from 0
-abbrev pub put_at : {A : Type 0} → List A → ℕ → A → List A
-put_at [] i y = []
-put_at (x ∷ xs) zero y = y ∷ xs
-put_at (x ∷ xs) (suc i) y = x ∷ put_at xs i y
-
 -- the list with another v-th element
 abbrev pub put : {A : Type 0} → List A → ℕ → A → List A
 put xs zero y = xs
-put xs (suc i) y = put_at xs i y
+put xs (suc i) y = set xs i y
 
 -- the numbers of the elements
 abbrev pub numbers : {A : Type 0} → List A → List ℕ

@@ -1,5 +1,18 @@
+ghost use Rattle.std.specs.Prelude.{◌≡◌};
+ghost use Rattle.nb_sheet.specs.Sheet.{is_derive as is_derive_of};
+
 use nb_syntax::Cell;
-use nb_value::Text;
+use nb_value::{Items, Text};
+
+/// Which variable of the source a derived module has in place of its own, and under which name.
+#[derive(Debug, Drop)]
+pub struct Specifier {
+    pub name: Text,
+    pub alias: Text,
+}
+
+/// A list of specifiers.
+pub type Specifiers = Items<Specifier>;
 
 /// A change of the sheet.
 #[derive(Debug, Drop)]
@@ -38,4 +51,23 @@ pub enum Edit {
         module: u32,
         cell: Cell,
     },
+    /// A copy of the module with imports from the source in place of some variables, and copies of the modules made by a
+    /// derive that it imports from.
+    Derive {
+        module: u32,
+        with: Specifiers,
+        source: u32,
+    },
+}
+
+impl Edit {
+    /// Whether it is a derive, whose copies are made apart. It takes no memory.
+    pub fn is_derive(&self) -> bool
+        ensures { result ≡ is_derive_of self.now }
+    {
+        match self {
+            Edit::Derive { .. } => true,
+            _ => false,
+        }
+    }
 }

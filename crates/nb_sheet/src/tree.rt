@@ -1,6 +1,6 @@
 //! Copies of edits and bodies, and whether two are one.
 
-use crate::edit::Edit;
+use crate::edit::{Edit, Specifier};
 use crate::row::BodyOf;
 use nb_value::Tree;
 use std::alloc::{AllocError, Global};
@@ -24,6 +24,19 @@ impl Tree for BodyOf {
             }
             _ => false,
         }
+    }
+}
+
+impl Tree for Specifier {
+    fn copy(&self, alloc: Global) -> Result<Specifier, AllocError> {
+        Ok(Specifier {
+            name: self.name.copy(alloc)?,
+            alias: self.alias.copy(alloc)?,
+        })
+    }
+
+    fn same(&self, other: &Specifier) -> bool {
+        self.name.same(&other.name) && self.alias.same(&other.alias)
     }
 }
 
@@ -65,6 +78,15 @@ impl Tree for Edit {
             Edit::Redefine { module, cell } => Ok(Edit::Redefine {
                 module: *module,
                 cell: cell.copy(alloc)?,
+            }),
+            Edit::Derive {
+                module,
+                with,
+                source,
+            } => Ok(Edit::Derive {
+                module: *module,
+                with: with.copy(alloc)?,
+                source: *source,
             }),
         }
     }
@@ -122,6 +144,18 @@ impl Tree for Edit {
             (Edit::Redefine { module: m, cell: a }, Edit::Redefine { module: n, cell: b }) => {
                 *m == *n && a.same(b)
             }
+            (
+                Edit::Derive {
+                    module: m,
+                    with: a,
+                    source: s,
+                },
+                Edit::Derive {
+                    module: n,
+                    with: b,
+                    source: t,
+                },
+            ) => *m == *n && *s == *t && a.same(b),
             _ => false,
         }
     }
