@@ -1,2 +1,4 @@
-pub mod FormLemmas
+pub mod DataLemmas
+pub mod FaultLemmas
+pub mod FieldLemmas
 pub mod LineLemmas
