@@ -27,6 +27,7 @@ use Rattle.nb_history.proofs.Histories.{legal_append}
 use Rattle.nb_core.specs.State.{sheet_of, reading_of, is_cell, row_of, IsBare, IsState, IsQuietLog}
 use Rattle.nb_core.proofs.States.{of_log, stands_after}
 use Rattle.nb_history.proofs.EditedRows.{nth_push}
+use Rattle.nb_sheet.proofs.Adds.{few_variables}
 use Rattle.nb_core.proofs.Begins.{older_bare}
 
 abbrev pub adding : Cell → Event
@@ -57,11 +58,7 @@ module _ (builtins : List (Field Value)) (rows : List VarRow) (starts : List (Op
 
 -- a sheet that takes one more variable has fewer than 1,024
 pub few_rows : (builtins : List (Field Value)) (rows : List VarRow) (cell : Cell) → refusal (sheet_of builtins rows) (AddCell 0 cell true) ≡ None → length rows < 1024
-few_rows builtins rows cell clear =
-    elim (cases_lt (length rows) 1024) [
-      | inl few ↦ few
-      | inr many ↦ absurd (none-some TooManyVariables (sym clear ∙ ap (λ (b : Bool). where_true b TooManyVariables) (le-leb 1024 (length rows) many)))
-    ]
+few_rows builtins rows cell clear = omega (arith, few_variables (sheet_of builtins rows) 1 clear)
 
 -- ---- a refused event changes nothing else
 

@@ -13,14 +13,14 @@ use Rattle.nb_log.specs.declared.event.Event.TheVariants.{Edit as EditEvent}
 use Rattle.nb_log.specs.declared.entry.Refusal.{Refusal}
 use Rattle.nb_log.specs.declared.entry.Refusal.TheVariants.{LogFull}
 use Rattle.nb_log.specs.Refused.{refusal_of}
-use Rattle.nb_sheet.specs.Sheet.{Sheet, refusal, edited_sheet, all_but_last, without_last}
+use Rattle.nb_sheet.specs.Sheet.{Sheet, refusal, edited_sheet}
 use Rattle.nb_sheet.specs.declared.refused.Refused.{Refused as SheetRefused}
 use Rattle.nb_log.specs.declared.entry.Entry.{Entry}
 use Rattle.nb_log.specs.declared.entry.Entry.TheVariants.{Edit, Refused}
 use Rattle.nb_history.specs.Reading.{Reading, Start}
 use Rattle.nb_history.specs.Log.{reading, admit}
 use Rattle.nb_history.specs.History.{History, standing}
-use Rattle.nb_core.specs.State.{sheet_of, row_of, IsState, IsCore, IsClosed, IsStateOf, IsClosedOf}
+use Rattle.nb_core.specs.State.{one_module, sheet_of, row_of, IsState, IsCore, IsClosed, IsStateOf, IsClosedOf}
 use Rattle.nb_core.specs.Core.{Gains, IsAddedCell, IsAdding, IsAdmitted}
 use Rattle.nb_core.proofs.States.{size_total}
 use Rattle.nb_core.proofs.Adds.{adding, admit_full, admit_refused, admit_edit, few_rows, state_added}
@@ -115,17 +115,7 @@ module _ (builtins : List (Field Value)) (rows : List VarRow) (starts : List (Op
 
 -- ---- over the sheet that the core keeps
 
-but_last : (rows : List VarRow) (row : VarRow) → all_but_last (rows ++ row ∷ []) ≡ rows
-but_last [] row = refl
-but_last (x ∷ []) row = refl
-but_last (x ∷ y ∷ rows) row = ap (λ (l : List VarRow). x ∷ l) (but_last (y ∷ rows) row)
-
--- without the variable that an edit added, a sheet is what it was
-pub retracted : (s : Sheet) (edit : EditValue) (place : ℕ) → IsAdding edit → without_last (edited_sheet s edit place) ≡ s
-retracted s edit place adds =
-    ap (λ (e : EditValue). without_last (edited_sheet s e place)) adds.1 ∙ (λ j. record { builtins = s.builtins; modules = s.modules; rows = but_last s.rows (row_of adds.0 place) j })
-
-module _ (sheet : Sheet) (one : sheet.modules ≡ 1) (starts : List (Option Start)) (log : List Entry) (core : IsCore sheet.builtins sheet.rows starts log) (self : History) (same : history sheet.builtins log ≡ self) where
+module _ (sheet : Sheet) (one : sheet.modules ≡ one_module) (starts : List (Option Start)) (log : List Entry) (core : IsCore sheet.builtins sheet.rows starts log) (self : History) (same : history sheet.builtins log ≡ self) where
   pub sheet_here : sheet ≡ (standing self).sheet
   sheet_here = one_sheet sheet one ∙ sym (ap (λ (r : Reading). r.sheet) core.state.stands) ∙ ap (λ (h : History). (standing h).sheet) same
 
@@ -154,7 +144,7 @@ module _ (sheet : Sheet) (one : sheet.modules ≡ 1) (starts : List (Option Star
       pub told_grown : (clear : refusal sheet edit ≡ None) (sheet' : Sheet) (starts' : List (Option Start)) (log' es : List Entry) (entry : Entry)
           → ((l : List Entry) → place ≡ length l → IsStateOf (edited_sheet sheet edit place) (ss ++ None ∷ []) l → IsClosedOf (edited_sheet sheet edit place) starts' l es)
           → sheet' ≡ edited_sheet sheet edit place → ((x : EditValue) → event ≡ EditEvent x → entry ≡ Edit editor x) → log' ≡ (log ++ entry ∷ []) ++ es
-          → (IsCore sheet'.builtins sheet'.rows starts' log' × (sheet'.modules ≡ 1)) × Gains self (admit (standing self) editor event) (history sheet'.builtins log')
+          → (IsCore sheet'.builtins sheet'.rows starts' log' × (sheet'.modules ≡ one_module)) × Gains self (admit (standing self) editor event) (history sheet'.builtins log')
       unfolding adds_cell
       told_grown clear sheet' starts' log' es entry closes grown entries logs =
           let few : length sheet.rows < 1024 = few_rows sheet.builtins sheet.rows form.0 (ap (λ (s : Sheet). refusal s (AddCell 0 form.0 true)) (sym (one_sheet sheet one)) ∙ (ap (refusal sheet) (sym adds_cell.1) ∙ clear)) in
@@ -163,5 +153,5 @@ module _ (sheet : Sheet) (one : sheet.modules ≡ 1) (starts : List (Option Star
           told_added sheet.builtins sheet.rows starts log core self same editor low event form.0 form.1 form admitted place at ss e few now.rows starts' log' es entry
           (subst (λ (x : EditValue). (l : List Entry) → place ≡ length l → IsStateOf (edited_sheet sheet x place) (ss ++ None ∷ []) l → IsClosedOf (edited_sheet sheet x place) starts' l es) adds_cell.1 closes)
           refl entries logs in
-          subst (λ (s : Sheet). (IsCore s.builtins s.rows starts' log' × (s.modules ≡ 1)) × Gains self (admit (standing self) editor event) (history s.builtins log'))
+          subst (λ (s : Sheet). (IsCore s.builtins s.rows starts' log' × (s.modules ≡ one_module)) × Gains self (admit (standing self) editor event) (history s.builtins log'))
           (sym (grown ∙ ap (λ (x : EditValue). edited_sheet sheet x place) adds_cell.1)) ((told.0, one), told.1)

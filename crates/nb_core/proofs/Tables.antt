@@ -19,13 +19,13 @@ use Rattle.nb_resolve.specs.Names.{direct, duplicate, inputs, inputs_of_row, var
 use Rattle.nb_history.specs.Needs.{needed, circular}
 use Rattle.nb_history.proofs.Direct.{direct_within}
 use Rattle.nb_history.proofs.Closing.{range_has}
-use Rattle.nb_core.specs.State.{Ties, ties_of, all_ties, sheet_of, all_inputs, graph_of, is_marked, IsWithin}
+use Rattle.nb_core.specs.State.{Ties, ties_of, all_ties, one_module, sheet_of, all_inputs, graph_of, is_marked, IsWithin}
 
 -- a sheet of one module is told by its builtins and rows
-pub one_sheet : (s : Sheet) → s.modules ≡ 1 → s ≡ sheet_of s.builtins s.rows
+pub one_sheet : (s : Sheet) → s.modules ≡ one_module → s ≡ sheet_of s.builtins s.rows
 one_sheet s one j = record { builtins = s.builtins; modules = one j; rows = s.rows }
 
-pub read_sheet : (s : Sheet) (builtins : List (Field Value)) (rows : List VarRow) → s.modules ≡ 1 → builtins ≡ s.builtins → rows ≡ s.rows → s ≡ sheet_of builtins rows
+pub read_sheet : (s : Sheet) (builtins : List (Field Value)) (rows : List VarRow) → s.modules ≡ one_module → builtins ≡ s.builtins → rows ≡ s.rows → s ≡ sheet_of builtins rows
 read_sheet s builtins rows one b r = one_sheet s one ∙ (λ j. sheet_of (sym b j) (sym r j))
 
 -- ---- tables of all variables

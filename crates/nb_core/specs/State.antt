@@ -18,6 +18,7 @@ use Rattle.nb_log.specs.declared.entry.Entry.{Entry}
 use Rattle.nb_log.specs.declared.entry.Entry.TheVariants.{Fulfilled, Rejected}
 use Rattle.nb_sheet.specs.Lists.{Name, nth, put, from_option, numbers}
 use Rattle.nb_graph.specs.Needs.{has}
+use Rattle.nb_sheet.specs.Derive.{Modules}
 use Rattle.nb_sheet.specs.Sheet.{Sheet}
 use Rattle.nb_resolve.specs.declared.resolution.Resolution.{Resolution}
 use Rattle.nb_resolve.specs.Names.{inputs, direct, duplicate, variable_of}
@@ -27,9 +28,12 @@ use Rattle.nb_history.specs.Rules.{is_behind, footing, input_code, evaluation, d
 use Rattle.nb_history.specs.Log.{reading, IsLegal, IsQuiet, new_start}
 use Rattle.nb_history.specs.Serial.{closing, Closes}
 
--- one module
+-- one module, which no derive made
+abbrev pub one_module : Modules
+one_module = false ∷ []
+
 abbrev pub sheet_of : List (Field Value) → List VarRow → Sheet
-sheet_of builtins rows = record { builtins = builtins; modules = 1; rows = rows }
+sheet_of builtins rows = record { builtins = builtins; modules = one_module; rows = rows }
 
 -- what stands after n entries of this size
 abbrev pub reading_of : List (Field Value) → List VarRow → List (Option Start) → ℕ → ℕ → Reading

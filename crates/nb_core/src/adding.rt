@@ -3,7 +3,7 @@ ghost use Rattle.nb_sheet.specs.Sheet.{refusal, edited_sheet};
 ghost use Rattle.nb_sheet.specs.declared.edit.Edit.{Edit as EditValue};
 ghost use Rattle.nb_log.specs.declared.entry.Entry.{Entry as EntryValue};
 ghost use Rattle.nb_history.specs.Reading.{Start as StartValue};
-ghost use Rattle.nb_core.specs.State.{IsStateOf, IsClosedOf};
+ghost use Rattle.nb_core.specs.State.{one_module, IsStateOf, IsClosedOf};
 ghost use Rattle.nb_core.specs.Core.{IsAddedCell, IsAdding};
 
 use crate::closing::close;
@@ -52,12 +52,12 @@ fn follows(
     starts: &mut Vec<Option<Started>>,
     place: u64,
 ) -> Result<Vec<Entry>, AllocError>
-    requires one_module { sheet.now.modules ≡ 1 }
+    requires one_module { sheet.now.sheet.modules ≡ one_module }
     requires room { place < 2 ^ 63 }
-    requires state { (log : List EntryValue) × (place ≡ length log) × IsStateOf sheet.now (starts.old.items ++ None ∷ []) log }
-    ensures closed { IfOk result (λ entries. (log : List EntryValue) → place ≡ length log → IsStateOf sheet.now (starts.old.items ++ None ∷ []) log
-        → IsClosedOf sheet.now starts.new.items log entries.items) }
-    ensures few { IfOk result (λ entries. length entries.items ≤ length sheet.now.rows) }
+    requires state { (log : List EntryValue) × (place ≡ length log) × IsStateOf sheet.now.sheet (starts.old.items ++ None ∷ []) log }
+    ensures closed { IfOk result (λ entries. (log : List EntryValue) → place ≡ length log → IsStateOf sheet.now.sheet (starts.old.items ++ None ∷ []) log
+        → IsClosedOf sheet.now.sheet starts.new.items log entries.items) }
+    ensures few { IfOk result (λ entries. length entries.items ≤ length sheet.now.sheet.rows) }
     ensures err { OnErr result (starts.new.items ≡ starts.old.items) }
 {
     let tied = tie(alloc, sheet)?;
@@ -87,23 +87,24 @@ pub fn grow(
     edit: &Edit,
     place: u64,
 ) -> Result<Vec<Entry>, AllocError>
-    requires one_module { sheet.old.modules ≡ 1 }
+    requires one_module { sheet.old.sheet.modules ≡ one_module }
     requires adds { IsAdding edit.now }
-    requires admitted { refusal sheet.old edit.now ≡ None }
+    requires admitted { refusal sheet.old.sheet edit.now ≡ None }
     requires room { place < 2 ^ 63 }
-    requires state { (log : List EntryValue) × (place ≡ length log) × IsStateOf (edited_sheet sheet.old edit.now place) (starts.old.items ++ None ∷ []) log }
-    ensures sheet { OnOk result (sheet.new ≡ edited_sheet sheet.old edit.now place) }
-    ensures closed { IfOk result (λ entries. (log : List EntryValue) → place ≡ length log → IsStateOf (edited_sheet sheet.old edit.now place) (starts.old.items ++ None ∷ []) log
-        → IsClosedOf (edited_sheet sheet.old edit.now place) starts.new.items log entries.items) }
-    ensures few { IfOk result (λ entries. length entries.items ≤ length sheet.old.rows + 1) }
-    ensures same_sheet { OnErr result (sheet.new ≡ sheet.old) }
+    requires state { (log : List EntryValue) × (place ≡ length log) × IsStateOf (edited_sheet sheet.old.sheet edit.now place) (starts.old.items ++ None ∷ []) log }
+    ensures sheet { OnOk result (sheet.new.sheet ≡ edited_sheet sheet.old.sheet edit.now place) }
+    ensures closed { IfOk result (λ entries. (log : List EntryValue) → place ≡ length log → IsStateOf (edited_sheet sheet.old.sheet edit.now place) (starts.old.items ++ None ∷ []) log
+        → IsClosedOf (edited_sheet sheet.old.sheet edit.now place) starts.new.items log entries.items) }
+    ensures few { IfOk result (λ entries. length entries.items ≤ length sheet.old.sheet.rows + 1) }
+    ensures same_sheet { OnErr result (sheet.new.sheet ≡ sheet.old.sheet) }
     ensures same_starts { OnErr result (starts.new.items ≡ starts.old.items) }
 {
+    sheet.mark();
     sheet.apply(edit, place)?;
     match follows(alloc, sheet, starts, place) {
         Ok(entries) => Ok(entries),
         Err(refused) => {
-            sheet.retract();
+            sheet.undo();
             Err(refused)
         }
     }

@@ -6,7 +6,7 @@ ghost use Rattle.nb_history.specs.Needs.{circular};
 ghost use Rattle.nb_history.specs.Rules.{plain_error, through_input, first_error as first_error_of, value_given, first_value, answers_of, pulls_of};
 ghost use Rattle.nb_core.specs.Core.{work_of};
 ghost use Rattle.nb_core.specs.Given.{given_in, error_in, first_error_in, values_in, builtin_value as builtin_value_of, marked_by, first_work};
-ghost use Rattle.nb_core.specs.State.{at, sheet_of, shown_in};
+ghost use Rattle.nb_core.specs.State.{at, one_module, sheet_of, shown_in};
 
 use crate::starts::Started;
 use nb_eval::{Segment, Work};
@@ -286,13 +286,13 @@ pub fn work(
     is_duplicate: bool,
     is_circular: bool,
 ) -> Result<Work, AllocError>
-    requires one_module { sheet.now.modules ≡ 1 }
-    requires number { (0 < v) × (v ≤ length sheet.now.rows) }
-    requires duplicate { is_duplicate ≡ duplicate (sheet_of sheet.now.builtins sheet.now.rows) v }
-    requires circular { is_circular ≡ circular (sheet_of sheet.now.builtins sheet.now.rows) v }
-    requires answers { answers_of (at sheet.now.builtins sheet.now.rows starts.now) v ≡ [] }
-    requires pulls { pulls_of (at sheet.now.builtins sheet.now.rows starts.now) v ≡ 1 }
-    ensures { IfOk result (λ work. work ≡ work_of (at sheet.now.builtins sheet.now.rows starts.now) v) }
+    requires one_module { sheet.now.sheet.modules ≡ one_module }
+    requires number { (0 < v) × (v ≤ length sheet.now.sheet.rows) }
+    requires duplicate { is_duplicate ≡ duplicate (sheet_of sheet.now.sheet.builtins sheet.now.sheet.rows) v }
+    requires circular { is_circular ≡ circular (sheet_of sheet.now.sheet.builtins sheet.now.sheet.rows) v }
+    requires answers { answers_of (at sheet.now.sheet.builtins sheet.now.sheet.rows starts.now) v ≡ [] }
+    requires pulls { pulls_of (at sheet.now.sheet.builtins sheet.now.sheet.rows starts.now) v ≡ 1 }
+    ensures { IfOk result (λ work. work ≡ work_of (at sheet.now.sheet.builtins sheet.now.sheet.rows starts.now) v) }
 {
     let found = inputs(alloc, sheet, v)?;
     let builtins = sheet.builtins();

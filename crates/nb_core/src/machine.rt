@@ -45,11 +45,11 @@ impl Model for Core {
 
     ghost coded = { history_code value.the_row.coded entry.the_row.coded };
 
-    ghost use Rattle.nb_core.specs.State.{IsCore};
+    ghost use Rattle.nb_core.specs.State.{IsCore, one_module};
 
-    ghost view = { λ c. record { builtins = c.sheet.builtins; log = c.log.entries } };
+    ghost view = { λ c. record { builtins = c.sheet.sheet.builtins; log = c.log.entries } };
 
-    ghost invariant = { λ c. IsCore c.sheet.builtins c.sheet.rows c.starts.items c.log.entries × (c.sheet.modules ≡ 1) };
+    ghost invariant = { λ c. IsCore c.sheet.sheet.builtins c.sheet.sheet.rows c.starts.items c.log.entries × (c.sheet.sheet.modules ≡ one_module) };
 }
 
 impl Core {
@@ -265,8 +265,8 @@ impl Core {
 
     /// The sheet: the builtins, and the rows of the variables. It takes no memory.
     pub fn sheet(&self) -> &Sheet
-        ensures value { result.now ≡ (standing self.now).sheet }
-        ensures builtins { result.now.builtins ≡ self.now.builtins }
+        ensures value { result.now.sheet ≡ (standing self.now).sheet }
+        ensures builtins { result.now.sheet.builtins ≡ self.now.builtins }
     {
         &self.sheet
     }

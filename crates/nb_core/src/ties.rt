@@ -83,7 +83,7 @@ fn codes(alloc: Global, inputs: &[Input]) -> Result<Vec<u64>, AllocError>
 
 /// Of each variable, by number, whether it is a duplicate.
 fn duplicates(alloc: Global, sheet: &Sheet) -> Result<Vec<bool>, AllocError>
-    ensures { IfOk result (λ all. all.items ≡ map (duplicate sheet.now) (numbers sheet.now.rows)) }
+    ensures { IfOk result (λ all. all.items ≡ map (duplicate sheet.now.sheet) (numbers sheet.now.sheet.rows)) }
 {
     let rows = sheet.rows();
     let mut all = Vec::new(alloc);
@@ -99,8 +99,8 @@ fn inputs_of_all(
     sheet: &Sheet,
     duplicates: &[bool],
 ) -> Result<Vec<Items<Input>>, AllocError>
-    requires { duplicates.now ≡ map (duplicate sheet.now) (numbers sheet.now.rows) }
-    ensures inputs { IfOk result (λ all. all.items ≡ all_inputs sheet.now) }
+    requires { duplicates.now ≡ map (duplicate sheet.now.sheet) (numbers sheet.now.sheet.rows) }
+    ensures inputs { IfOk result (λ all. all.items ≡ all_inputs sheet.now.sheet) }
     ensures few { IfOk result (λ all. length all.items ≤ 1024) }
 {
     let rows = sheet.rows();
@@ -145,10 +145,10 @@ fn tied(
     is_circular: bool,
     v: u32,
 ) -> Result<Ties, AllocError>
-    requires inputs { inputs.now ≡ inputs_of sheet.now v }
-    requires duplicate { is_duplicate ≡ duplicate sheet.now v }
-    requires circular { is_circular ≡ circular_of sheet.now v }
-    ensures { IfOk result (λ t. t ≡ ties_of sheet.now v) }
+    requires inputs { inputs.now ≡ inputs_of sheet.now.sheet v }
+    requires duplicate { is_duplicate ≡ duplicate sheet.now.sheet v }
+    requires circular { is_circular ≡ circular_of sheet.now.sheet v }
+    ensures { IfOk result (λ t. t ≡ ties_of sheet.now.sheet v) }
 {
     let codes = codes(alloc, inputs)?;
     let vars = variables(alloc, inputs)?;
@@ -169,10 +169,10 @@ fn tied_all(
     circular: &[bool],
 ) -> Result<Vec<Ties>, AllocError>
     requires few { length all.now ≤ 1024 }
-    requires inputs { all.now ≡ all_inputs sheet.now }
-    requires duplicates { duplicates.now ≡ map (duplicate sheet.now) (numbers sheet.now.rows) }
-    requires circular { IsMarks (graph_of sheet.now) (needs_itself (graph_of sheet.now)) circular.now }
-    ensures { IfOk result (λ ties. ties.items ≡ ties_of_all sheet.now) }
+    requires inputs { all.now ≡ all_inputs sheet.now.sheet }
+    requires duplicates { duplicates.now ≡ map (duplicate sheet.now.sheet) (numbers sheet.now.sheet.rows) }
+    requires circular { IsMarks (graph_of sheet.now.sheet) (needs_itself (graph_of sheet.now.sheet)) circular.now }
+    ensures { IfOk result (λ ties. ties.items ≡ ties_of_all sheet.now.sheet) }
 {
     let mut ties = Vec::new(alloc);
     for i in 0..all.len() {
@@ -198,8 +198,8 @@ pub struct AllTies {
 
 /// What the names of a sheet tie its variables to. It costs a scan over the rows for each name of each cell.
 pub fn tie(alloc: Global, sheet: &Sheet) -> Result<AllTies, AllocError>
-    ensures ties { IfOk result (λ t. t.ties.items ≡ ties_of_all sheet.now) }
-    ensures graph { IfOk result (λ t. t.graph ≡ graph_of sheet.now) }
+    ensures ties { IfOk result (λ t. t.ties.items ≡ ties_of_all sheet.now.sheet) }
+    ensures graph { IfOk result (λ t. t.graph ≡ graph_of sheet.now.sheet) }
 {
     let duplicates = duplicates(alloc, sheet)?;
     let all = inputs_of_all(alloc, sheet, &duplicates)?;

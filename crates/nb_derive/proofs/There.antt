@@ -67,10 +67,10 @@ first_fit n m specifiers source true less = imports_fit n source specifiers less
 first_fit n m specifiers source false less = refl
 
 copies_fit : (modules : Modules) (rows : List VarRow) (m : ℕ) (specifiers : List Specifier) (source : ℕ) (copied list : List ℕ) (n : ℕ) → source < n → length modules + length copied ≤ n → list_all (is_row (length modules)) rows ≡ true
-    → list_all (is_from n) (map (module_copy modules rows m specifiers source copied) list) ≡ true
+    → list_all (is_from n) (map (module_copy (length modules) rows m specifiers source copied) list) ≡ true
 copies_fit modules rows m specifiers source copied [] n less low h = refl
 copies_fit modules rows m specifiers source copied (k ∷ list) n less low h =
-    both (is_from n (module_copy modules rows m specifiers source copied k)) (list_all (is_from n) (map (module_copy modules rows m specifiers source copied) list))
+    both (is_from n (module_copy (length modules) rows m specifiers source copied k)) (list_all (is_from n) (map (module_copy (length modules) rows m specifiers source copied) list))
     (all_append (fits n) (first_vars m specifiers source k) (flat_map (λ (row : VarRow). copied_var (length modules) copied row.name row.body) (copied_of m specifiers rows k)) (first_fit n m specifiers source (k == m) less)
     (vars_fit (length modules) copied n (is_copied m specifiers k) rows low h))
     (copies_fit modules rows m specifiers source copied list n less low h)
@@ -79,6 +79,6 @@ pub there : (modules : Modules) (rows : List VarRow) (m : ℕ) (specifiers : Lis
     → copies ≡ derived modules rows m specifiers source → list_all (is_from (length modules + length copies)) copies ≡ true
 there modules rows m specifiers source copies less h e =
     let copied = copied_modules modules rows m specifiers in
-    let size : length copies ≡ length copied = ap length e ∙ length-map copied (module_copy modules rows m specifiers source copied) in
+    let size : length copies ≡ length copied = ap length e ∙ length-map copied (module_copy (length modules) rows m specifiers source copied) in
     ap (list_all (is_from (length modules + length copies))) e
     ∙ copies_fit modules rows m specifiers source copied copied (length modules + length copies) (omega (arith, less)) (omega (arith, size)) h

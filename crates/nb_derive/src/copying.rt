@@ -11,6 +11,17 @@ use nb_sheet::{
 use nb_value::Tree;
 use std::alloc::{AllocError, Global};
 
+/// A derive of a module, with the modules that it copies, and the number of the first copy.
+#[derive(Drop)]
+struct Plan<'a> {
+    next: u32,
+    rows: &'a [VarRow],
+    within: u32,
+    specifiers: &'a Specifiers,
+    source: u32,
+    copied: &'a [u32],
+}
+
 /// The number of a module's copy, or its own where it isn't copied.
 fn copy_of(next: u32, copied: &[u32], k: u32) -> u32
     requires { next + length copied.now < 2 ^ 32 }
@@ -25,15 +36,15 @@ fn copy_of(next: u32, copied: &[u32], k: u32) -> u32
 }
 
 /// A copy of a body, in which an import from a copied module is one from its copy.
-fn turned(alloc: Global, next: u32, copied: &[u32], body: &BodyOf) -> Result<BodyOf, AllocError>
-    requires { next + length copied.now < 2 ^ 32 }
-    ensures { IfOk result (λ new. new ≡ turned_of next copied.now body.now) }
+fn turned(alloc: Global, plan: &Plan<'_>, body: &BodyOf) -> Result<BodyOf, AllocError>
+    requires { plan.now.next + length plan.now.copied.now < 2 ^ 32 }
+    ensures { IfOk result (λ new. new ≡ turned_of plan.now.next plan.now.copied.now body.now) }
 {
     match body {
         BodyOf::Cell(cell) => Ok(BodyOf::Cell(cell.copy(alloc)?)),
         BodyOf::Import { name, from } => Ok(BodyOf::Import {
             name: name.copy(alloc)?,
-            from: copy_of(next, copied, *from),
+            from: copy_of(plan.next, plan.copied, *from),
         }),
     }
 }
@@ -64,17 +75,16 @@ fn imports(alloc: Global, specifiers: &[Specifier], source: u32) -> Result<Vec<N
 fn add_copy(
     alloc: Global,
     vars: &mut Vec<NewVar>,
-    next: u32,
-    copied: &[u32],
+    plan: &Plan<'_>,
     row: &VarRow,
 ) -> Result<(), AllocError>
-    requires { next + length copied.now < 2 ^ 32 }
-    ensures { OnOk result (vars.new.items ≡ vars.old.items ++ copied_var next copied.now row.now.name row.now.body) }
+    requires { plan.now.next + length plan.now.copied.now < 2 ^ 32 }
+    ensures { OnOk result (vars.new.items ≡ vars.old.items ++ copied_var plan.now.next plan.now.copied.now row.now.name row.now.body) }
 {
     match (&row.name, &row.body) {
         (Some(name), Some(body)) => {
             let name = name.copy(alloc)?;
-            let body = turned(alloc, next, copied, body)?;
+            let body = turned(alloc, plan, body)?;
             vars.push(NewVar { name, body })?;
             Ok(())
         }
@@ -86,76 +96,51 @@ fn add_copy(
 fn add_variables(
     alloc: Global,
     vars: &mut Vec<NewVar>,
-    sheet: &Sheet,
-    within: u32,
-    specifiers: &Specifiers,
-    copied: &[u32],
+    plan: &Plan<'_>,
     k: u32,
 ) -> Result<(), AllocError>
-    requires { length copied.now < 2 ^ 31 }
-    ensures { OnOk result (vars.new.items ≡ vars.old.items ++ flat_map (λ (row : Row). copied_var (length sheet.now.sheet.modules) copied.now row.name row.body) (copied_of within specifiers.now sheet.now.sheet.rows k)) }
+    requires { plan.now.next + length plan.now.copied.now < 2 ^ 32 }
+    ensures { OnOk result (vars.new.items ≡ vars.old.items ++ flat_map (λ (row : Row). copied_var plan.now.next plan.now.copied.now row.name row.body) (copied_of plan.now.within plan.now.specifiers.now plan.now.rows.now k)) }
 {
-    let next = sheet.modules();
-    for row in sheet.rows() {
-        if is_copied(within, specifiers, k, row) {
-            add_copy(alloc, vars, next, copied, row)?;
+    for row in plan.rows {
+        if is_copied(plan.within, plan.specifiers, k, row) {
+            add_copy(alloc, vars, plan, row)?;
         }
     }
     Ok(())
 }
 
 /// What a module's copy begins with.
-fn first_of(
-    alloc: Global,
-    within: u32,
-    specifiers: &Specifiers,
-    source: u32,
-    k: u32,
-) -> Result<Vec<NewVar>, AllocError>
-    ensures { IfOk result (λ new. new.items ≡ first_vars within specifiers.now source k) }
+fn first_of(alloc: Global, plan: &Plan<'_>, k: u32) -> Result<Vec<NewVar>, AllocError>
+    ensures { IfOk result (λ new. new.items ≡ first_vars plan.now.within plan.now.specifiers.now plan.now.source k) }
 {
-    if k == within {
-        imports(alloc, specifiers.as_slice(), source)
+    if k == plan.within {
+        imports(alloc, plan.specifiers.as_slice(), plan.source)
     } else {
         Ok(Vec::new(alloc))
     }
 }
 
 /// A module's copy.
-fn copy_module(
-    alloc: Global,
-    sheet: &Sheet,
-    within: u32,
-    specifiers: &Specifiers,
-    source: u32,
-    copied: &[u32],
-    k: u32,
-) -> Result<NewModule, AllocError>
-    requires { length copied.now < 2 ^ 31 }
-    ensures { IfOk result (λ new. new ≡ module_copy sheet.now.sheet.modules sheet.now.sheet.rows within specifiers.now source copied.now k) }
+fn copy_module(alloc: Global, plan: &Plan<'_>, k: u32) -> Result<NewModule, AllocError>
+    requires { plan.now.next + length plan.now.copied.now < 2 ^ 32 }
+    ensures { IfOk result (λ new. new ≡ module_copy plan.now.next plan.now.rows.now plan.now.within plan.now.specifiers.now plan.now.source plan.now.copied.now k) }
 {
-    let mut vars = first_of(alloc, within, specifiers, source, k)?;
-    add_variables(alloc, &mut vars, sheet, within, specifiers, copied, k)?;
+    let mut vars = first_of(alloc, plan, k)?;
+    add_variables(alloc, &mut vars, plan, k)?;
     Ok(NewModule {
         variables: NewVars::from_vec(vars),
     })
 }
 
-/// The copies of these modules.
-fn copies(
-    alloc: Global,
-    sheet: &Sheet,
-    within: u32,
-    specifiers: &Specifiers,
-    source: u32,
-    copied: &[u32],
-) -> Result<Vec<NewModule>, AllocError>
-    requires { length copied.now < 2 ^ 31 }
-    ensures { IfOk result (λ new. new.items ≡ map (module_copy sheet.now.sheet.modules sheet.now.sheet.rows within specifiers.now source copied.now) copied.now) }
+/// The copies of the copied modules.
+fn copies(alloc: Global, plan: &Plan<'_>) -> Result<Vec<NewModule>, AllocError>
+    requires { plan.now.next + length plan.now.copied.now < 2 ^ 32 }
+    ensures { IfOk result (λ new. new.items ≡ map (module_copy plan.now.next plan.now.rows.now plan.now.within plan.now.specifiers.now plan.now.source plan.now.copied.now) plan.now.copied.now) }
 {
     let mut modules = Vec::new(alloc);
-    for k in copied {
-        modules.push(copy_module(alloc, sheet, within, specifiers, source, copied, *k)?)?;
+    for k in plan.copied {
+        modules.push(copy_module(alloc, plan, *k)?)?;
     }
     Ok(modules)
 }
@@ -174,8 +159,15 @@ pub fn derived(
     ensures value { IfOk result (λ new. new ≡ derived_of sheet.now.sheet.modules sheet.now.sheet.rows within specifiers.now source) }
     ensures there { IfOk result (λ new. list_all (is_from (length sheet.now.sheet.modules + length new)) new ≡ true) }
 {
-    let _rows = sheet.rows();
     let copied = copied_modules(sheet, within, specifiers);
-    let modules = copies(alloc, sheet, within, specifiers, source, copied.as_slice())?;
+    let plan = Plan {
+        next: sheet.modules(),
+        rows: sheet.rows(),
+        within,
+        specifiers,
+        source,
+        copied: copied.as_slice(),
+    };
+    let modules = copies(alloc, &plan)?;
     Ok(Copies::from_vec(modules))
 }

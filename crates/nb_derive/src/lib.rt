@@ -2,5 +2,7 @@
 #![tactic(auto)]
 
 mod copying;
+mod edits;
 
 pub use copying::derived;
+pub use edits::apply;

@@ -1,10 +1,11 @@
 -- The `left` and `pending` entries that follow an entry: each starts a variable for good, and in the end nothing is leaving or due.
 use Rattle.std.proofs.Common.{ℕ, zero, suc, ◌≡◌, ◌≢◌, ◌+◌, ◌<◌, ◌≤◌, refl, sym, ◌∙◌, ap, subst, Bool, true, false, cond, not, ◌&&◌, ◌||◌, ◌⊎◌, inl, inr, ltb, List, [], ◌∷◌, map, length, arith, Option, Some, None, is_some}
-use Rattle.std.specs.Prelude.{slice_get}
+use Rattle.std.specs.Prelude.{slice_get, set}
 use Rattle.std.specs.List.{list_any, range_with_len}
 use Rattle.std.proofs.lemmas.Bool.{or_cases, or_left, or_right, and_parts, and_from, cases_Bool, cases_eq, cases_lt, false≢true, false_from_ne_true, not-true}
+use Rattle.std.proofs.lemmas.List.{length-set}
 use Rattle.nb_graph.specs.Needs.{has}
-use Rattle.nb_sheet.specs.Lists.{nth, put, put_at, numbers, from_option, option_then}
+use Rattle.nb_sheet.specs.Lists.{nth, put, numbers, from_option, option_then}
 use Rattle.nb_history.specs.Lists.{first_where}
 use Rattle.nb_sheet.specs.Sheet.{Sheet}
 use Rattle.nb_resolve.specs.Names.{direct, duplicate, inputs}
@@ -22,35 +23,30 @@ use Rattle.nb_history.proofs.Footings.{same_footing_refl}
 
 -- ---- places in lists
 
-get_put_same : {A : Type 0} (xs : List A) (i : ℕ) (x y : A) → slice_get xs i ≡ Some x → slice_get (put_at xs i y) i ≡ Some y
-get_put_same [] i x y h = cc
-get_put_same (z ∷ xs) zero x y h = refl
-get_put_same (z ∷ xs) (suc i) x y h = get_put_same xs i x y h
+get_set_same : {A : Type 0} (xs : List A) (i : ℕ) (x y : A) → slice_get xs i ≡ Some x → slice_get (set xs i y) i ≡ Some y
+get_set_same [] i x y h = cc
+get_set_same (z ∷ xs) zero x y h = refl
+get_set_same (z ∷ xs) (suc i) x y h = get_set_same xs i x y h
 
-get_put_other : {A : Type 0} (xs : List A) (i j : ℕ) (y : A) → i ≢ j → slice_get (put_at xs i y) j ≡ slice_get xs j
-get_put_other [] i j y h = refl
-get_put_other (z ∷ xs) zero zero y h = absurd (h refl)
-get_put_other (z ∷ xs) zero (suc j) y h = refl
-get_put_other (z ∷ xs) (suc i) zero y h = refl
-get_put_other (z ∷ xs) (suc i) (suc j) y h = get_put_other xs i j y (λ e. h (ap suc e))
-
-length_put_at : {A : Type 0} (xs : List A) (i : ℕ) (y : A) → length (put_at xs i y) ≡ length xs
-length_put_at [] i y = refl
-length_put_at (z ∷ xs) zero y = refl
-length_put_at (z ∷ xs) (suc i) y = ap suc (length_put_at xs i y)
+get_set_other : {A : Type 0} (xs : List A) (i j : ℕ) (y : A) → i ≢ j → slice_get (set xs i y) j ≡ slice_get xs j
+get_set_other [] i j y h = refl
+get_set_other (z ∷ xs) zero zero y h = absurd (h refl)
+get_set_other (z ∷ xs) zero (suc j) y h = refl
+get_set_other (z ∷ xs) (suc i) zero y h = refl
+get_set_other (z ∷ xs) (suc i) (suc j) y h = get_set_other xs i j y (λ e. h (ap suc e))
 
 pub nth_put_same : {A : Type 0} (xs : List A) (v : ℕ) (x y : A) → nth xs v ≡ Some x → nth (put xs v y) v ≡ Some y
 nth_put_same xs zero x y h = cc
-nth_put_same xs (suc i) x y h = get_put_same xs i x y h
+nth_put_same xs (suc i) x y h = get_set_same xs i x y h
 
 pub nth_put_other : {A : Type 0} (xs : List A) (v w : ℕ) (y : A) → v ≢ w → nth (put xs v y) w ≡ nth xs w
 nth_put_other xs zero w y h = refl
 nth_put_other xs (suc i) zero y h = refl
-nth_put_other xs (suc i) (suc j) y h = get_put_other xs i j y (λ e. h (ap suc e))
+nth_put_other xs (suc i) (suc j) y h = get_set_other xs i j y (λ e. h (ap suc e))
 
 pub length_put : {A : Type 0} (xs : List A) (v : ℕ) (y : A) → length (put xs v y) ≡ length xs
 length_put xs zero y = refl
-length_put xs (suc i) y = length_put_at xs i y
+length_put xs (suc i) y = length-set xs i y
 
 -- the numbers are those that have an element
 get_some : {A : Type 0} (xs : List A) (i : ℕ) → i < length xs → (x : A) × (slice_get xs i ≡ Some x)

@@ -1,13 +1,16 @@
--- The rows after an edit: those of before, and one that was given at the edit's place or undefined.
-use Rattle.std.proofs.Common.{inl, inr, ℕ, zero, suc, ◌≡◌, refl, sym, ◌∙◌, ap, subst, true, false, ◌⊎◌, List, [], ◌∷◌, ◌++◌, Option, Some, None, is_some}
+-- The rows after an edit: those of before, and some that were given at the edit's place or undefined.
+use Rattle.std.proofs.Common.{inl, inr, ℕ, zero, suc, ◌+◌, ◌≡◌, refl, sym, ◌∙◌, ap, subst, true, false, ◌⊎◌, List, [], ◌∷◌, ◌++◌, map, length, Option, Some, None, is_some}
 use Rattle.std.specs.Prelude.{slice_get}
 use Rattle.std.proofs.lemmas.Bool.{cases_eq, false≢true}
 use Rattle.std.proofs.lemmas.Option.{none-some, same_Some}
 use Rattle.nb_sheet.specs.declared.row.BodyOf.TheVariants.{Cell as CellBody, Import as ImportBody}
 use Rattle.nb_sheet.specs.declared.row.VarRow.{VarRow}
+use Rattle.nb_sheet.specs.declared.copies.NewVar.{NewVar}
+use Rattle.nb_sheet.specs.declared.copies.NewModule.{NewModule}
 use Rattle.nb_sheet.specs.declared.edit.Edit.{Edit}
-use Rattle.nb_sheet.specs.declared.edit.Edit.TheVariants.{AddModule, AddVariable, AddCell, Define, Import, Delete, Redefine}
+use Rattle.nb_sheet.specs.declared.edit.Edit.TheVariants.{AddModule, AddVariable, AddCell, Define, Import, Delete, Redefine, Derive}
 use Rattle.nb_sheet.specs.Lists.{nth, put, from_option}
+use Rattle.nb_sheet.specs.Derive.{derived, new_row, rows_of}
 use Rattle.nb_sheet.specs.Sheet.{Sheet, edited_sheet, defined_by, undefined, the_one_named}
 use Rattle.nb_history.proofs.Closing.{nth_put_same, nth_put_other}
 
@@ -55,6 +58,36 @@ given_row place row body at = record { named = λ k. body; placed = λ k. at; ne
 bare_row : (place : ℕ) (row : VarRow) → is_some row.name ≡ false → is_some row.body ≡ false → row.place ≡ 0 → Fresh place row
 bare_row place row name body at = record { named = λ k. absurd (false≢true (sym name ∙ k)); placed = λ k. absurd (false≢true (sym body ∙ k)); new = inr at }
 
+-- ---- the rows of copies
+
+get_append : {A : Type 0} (xs ys : List A) (i : ℕ) (x : A) → slice_get (xs ++ ys) i ≡ Some x → (slice_get xs i ≡ Some x) ⊎ ((j : ℕ) × (slice_get ys j ≡ Some x))
+get_append [] ys i x h = inr (i, h)
+get_append (z ∷ xs) ys zero x h = inl h
+get_append (z ∷ xs) ys (suc i) x h = get_append xs ys i x h
+
+-- each element of a list is a fresh row
+abbrev AreFresh : ℕ → List VarRow → Type 0
+AreFresh place rows = (i : ℕ) (row : VarRow) → slice_get rows i ≡ Some row → Fresh place row
+
+more_rows : (rows : List VarRow) (place : ℕ) (more : List VarRow) → AreFresh place more → Edited rows place (rows ++ more)
+more_rows rows place more fresh zero row at = absurd (none-some row at)
+more_rows rows place more fresh (suc i) row at = elim (get_append rows more i row at) [
+  | inl old ↦ inl old
+  | inr new ↦ inr (fresh new.0 row new.1)
+]
+
+variables_fresh : (m place : ℕ) (vars : List NewVar) → AreFresh place (map (new_row m place) vars)
+variables_fresh m place [] i row at = absurd (none-some row at)
+variables_fresh m place (v ∷ vars) zero row at = subst (λ (x : VarRow). Fresh place x) (same_Some (new_row m place v) row at) (given_row place (new_row m place v) refl refl)
+variables_fresh m place (v ∷ vars) (suc i) row at = variables_fresh m place vars i row at
+
+copies_fresh : (next place : ℕ) (copies : List NewModule) → AreFresh place (rows_of next place copies)
+copies_fresh next place [] i row at = absurd (none-some row at)
+copies_fresh next place (c ∷ copies) i row at = elim (get_append (map (new_row next place) c.variables) (rows_of (next + 1) place copies) i row at) [
+  | inl here ↦ variables_fresh next place c.variables i row here
+  | inr later ↦ copies_fresh (next + 1) place copies later.0 row later.1
+]
+
 pub edited_rows : (s : Sheet) (edit : Edit) (place : ℕ) → Edited s.rows place (edited_sheet s edit place).rows
 edited_rows s AddModule place = λ v row at. inl at
 edited_rows s (AddVariable m observed) place =
@@ -71,6 +104,7 @@ edited_rows s (Delete v) place = row_changed s.rows place v undefined (λ row. b
 edited_rows s (Redefine m cell) place =
     row_changed s.rows place (the_one_named s m cell.name) (λ row. record row { body = Some (CellBody cell); place = place })
     (λ row. given_row place (record row { body = Some (CellBody cell); place = place }) refl refl)
+edited_rows s (Derive m specifiers source) place = more_rows s.rows place (rows_of (length s.modules) place (derived s.modules s.rows m specifiers source)) (copies_fresh (length s.modules) place (derived s.modules s.rows m specifiers source))
 
 -- builtins never change
 pub edited_builtins : (s : Sheet) (edit : Edit) (place : ℕ) → (edited_sheet s edit place).builtins ≡ s.builtins
@@ -81,3 +115,4 @@ edited_builtins s (Define v cell) place = refl
 edited_builtins s (Import v name alias from) place = refl
 edited_builtins s (Delete v) place = refl
 edited_builtins s (Redefine m cell) place = refl
+edited_builtins s (Derive m specifiers source) place = refl

@@ -1,20 +1,21 @@
 -- Each entry keeps as many starts as variables, and a name only where a variable is defined: so these hold after every log.
-use Rattle.std.proofs.Common.{inl, inr, ℕ, zero, suc, ◌+◌, ◌-◌, ◌≡◌, ◌≤◌, refl, sym, ◌∙◌, ap, true, ◌⊎◌, List, [], ◌∷◌, ◌++◌, length, replicate, length-append, Option, Some, None, is_some, arith}
-use Rattle.std.specs.Prelude.{slice_get}
+use Rattle.std.proofs.Common.{inl, inr, ℕ, zero, suc, ◌+◌, ◌-◌, ◌≡◌, ◌≤◌, refl, ◌∙◌, ap, List, [], ◌∷◌, ◌++◌, length, replicate, length-append, Option, Some, None, arith}
 use Rattle.std.proofs.lemmas.List.{length-replicate}
 use Rattle.nb_value.specs.declared.pairs.Field.{Field}
 use Rattle.nb_value.specs.declared.value.Value.{Value}
-use Rattle.nb_sheet.specs.Lists.{nth, put, put_at, from_option}
-use Rattle.nb_sheet.specs.Sheet.{Sheet, empty_sheet, add_row, change_row, edited_sheet, defined_by, undefined, the_one_named}
+use Rattle.nb_sheet.specs.Lists.{nth, put, from_option}
+use Rattle.nb_sheet.specs.Derive.{derived, rows_of}
+use Rattle.nb_sheet.specs.Sheet.{Sheet, empty_sheet, change_row, edited_sheet, defined_by, undefined, the_one_named}
 use Rattle.nb_sheet.specs.declared.row.VarRow.{VarRow}
 use Rattle.nb_sheet.specs.declared.row.BodyOf.TheVariants.{Cell as CellBody, Import as ImportBody}
 use Rattle.nb_sheet.specs.declared.edit.Edit.{Edit}
-use Rattle.nb_sheet.specs.declared.edit.Edit.TheVariants.{AddModule, AddVariable, AddCell, Define, Import, Delete, Redefine}
+use Rattle.nb_sheet.specs.declared.edit.Edit.TheVariants.{AddModule, AddVariable, AddCell, Define, Import, Delete, Redefine, Derive}
 use Rattle.nb_history.specs.Reading.{Reading, Start}
 use Rattle.nb_history.specs.Log.{nothing_yet, with_sheet, pulled_from, after, read_from, reading}
 use Rattle.nb_log.specs.declared.entry.Entry.{Entry}
 use Rattle.nb_log.specs.declared.entry.Entry.TheVariants.{Edit as EditEntry, Frame, Settled, Late, Loaded, Refused, Rest, Dispose, Pending, Fulfilled, Rejected, Asked, Ended, Left}
 use Rattle.nb_history.proofs.Closing.{Shaped, length_put}
+use Rattle.nb_history.proofs.EditedRows.{edited_rows}
 use Rattle.nb_history.proofs.Scratches.{NamedDefined}
 
 -- what each reading keeps
@@ -31,23 +32,24 @@ change_length s v change = go (nth s.rows v)
     go None = refl
     go (Some row) = length_put s.rows v (change row)
 
-push_longer : {A : Type 0} (xs : List A) (x : A) → length xs ≤ length (xs ++ x ∷ [])
-push_longer xs x = omega (arith, length-append xs (x ∷ []))
-
 same_length : (m n : ℕ) → n ≡ m → m ≤ n
 same_length m n e = omega (arith, e)
+
+append_longer : {A : Type 0} (xs ys : List A) → length xs ≤ length (xs ++ ys)
+append_longer xs ys = omega (arith, length-append xs ys)
 
 -- an edit takes no variable away
 edited_longer : (s : Sheet) (edit : Edit) (place : ℕ) → length s.rows ≤ length (edited_sheet s edit place).rows
 edited_longer s AddModule place = omega arith
-edited_longer s (AddVariable m observed) place = push_longer s.rows (record { «module» = m; observed = observed; name = None; body = None; place = 0 })
-edited_longer s (AddCell m cell observed) place = push_longer s.rows (record { «module» = m; observed = observed; name = cell.name; body = Some (CellBody cell); place = place })
+edited_longer s (AddVariable m observed) place = append_longer s.rows (record { «module» = m; observed = observed; name = None; body = None; place = 0 } ∷ [])
+edited_longer s (AddCell m cell observed) place = append_longer s.rows (record { «module» = m; observed = observed; name = cell.name; body = Some (CellBody cell); place = place } ∷ [])
 edited_longer s (Define v cell) place = same_length (length s.rows) (length (edited_sheet s (Define v cell) place).rows) (change_length s v (defined_by cell.name (CellBody cell) place))
 edited_longer s (Import v name alias from) place = same_length (length s.rows) (length (edited_sheet s (Import v name alias from) place).rows) (change_length s v (defined_by (Some alias) (ImportBody name from) place))
 edited_longer s (Delete v) place = same_length (length s.rows) (length (edited_sheet s (Delete v) place).rows) (change_length s v undefined)
 edited_longer s (Redefine m cell) place =
     same_length (length s.rows) (length (edited_sheet s (Redefine m cell) place).rows)
     (change_length s (the_one_named s m cell.name) (λ row. record row { body = Some (CellBody cell); place = place }))
+edited_longer s (Derive m specifiers source) place = append_longer s.rows (rows_of (length s.modules) place (derived s.modules s.rows m specifiers source))
 
 shaped_sheet : (r : Reading) (s : Sheet) → Shaped r → length r.sheet.rows ≤ length s.rows → Shaped (with_sheet r s)
 shaped_sheet r s h longer =
@@ -76,58 +78,11 @@ shaped_after r (Left v d) h = length_put _ _ _ ∙ h
 
 -- ---- a name only where a variable is defined
 
-get_push : {A : Type 0} (xs : List A) (y : A) (i : ℕ) (x : A) → slice_get (xs ++ y ∷ []) i ≡ Some x → (slice_get xs i ≡ Some x) ⊎ (y ≡ x)
-get_push [] y zero x h = inr (cc)
-get_push [] y (suc i) x h = absurd (cc)
-get_push (z ∷ xs) y zero x h = inl h
-get_push (z ∷ xs) y (suc i) x h = get_push xs y i x h
-
-nth_push : {A : Type 0} (xs : List A) (y : A) (v : ℕ) (x : A) → nth (xs ++ y ∷ []) v ≡ Some x → (nth xs v ≡ Some x) ⊎ (y ≡ x)
-nth_push xs y zero x h = inl h
-nth_push xs y (suc i) x h = get_push xs y i x h
-
-get_put : {A : Type 0} (xs : List A) (i : ℕ) (y : A) (j : ℕ) (x : A) → slice_get (put_at xs i y) j ≡ Some x → (slice_get xs j ≡ Some x) ⊎ (y ≡ x)
-get_put [] i y j x h = inl h
-get_put (z ∷ xs) zero y zero x h = inr (cc)
-get_put (z ∷ xs) zero y (suc j) x h = inl h
-get_put (z ∷ xs) (suc i) y zero x h = inl h
-get_put (z ∷ xs) (suc i) y (suc j) x h = get_put xs i y j x h
-
-nth_put : {A : Type 0} (xs : List A) (v : ℕ) (y : A) (w : ℕ) (x : A) → nth (put xs v y) w ≡ Some x → (nth xs w ≡ Some x) ⊎ (y ≡ x)
-nth_put xs zero y w x h = inl h
-nth_put xs (suc i) y zero x h = inl h
-nth_put xs (suc i) y (suc j) x h = get_put xs i y j x h
-
-abbrev IsPlain : VarRow → Type 0
-IsPlain row = is_some row.name ≡ true → is_some row.body ≡ true
-
-named_push : (s : Sheet) (row : VarRow) → NamedDefined s → IsPlain row → NamedDefined (add_row s row)
-named_push s row h plain v x at =
-    elim (nth_push s.rows row v x at) [
-      | inl old ↦ h v x old
-      | inr new ↦ λ n. ap (λ (y : VarRow). is_some y.body) (sym new) ∙ plain (ap (λ (y : VarRow). is_some y.name) new ∙ n)
-    ]
-
-named_change : (s : Sheet) (v : ℕ) (change : VarRow → VarRow) → NamedDefined s → ((row : VarRow) → IsPlain (change row)) → NamedDefined (change_row s v change)
-named_change s v change h plain w x = go (nth s.rows v)
-  where
-    go : (o : Option VarRow) → nth (from_option s.rows (λ row. put s.rows v (change row)) o) w ≡ Some x → IsPlain x
-    go None at = h w x at
-    go (Some row) at =
-        elim (nth_put s.rows v (change row) w x at) [
-          | inl old ↦ h w x old
-          | inr new ↦ λ n. ap (λ (y : VarRow). is_some y.body) (sym new) ∙ plain row (ap (λ (y : VarRow). is_some y.name) new ∙ n)
-        ]
-
 named_edited : (s : Sheet) (edit : Edit) (place : ℕ) → NamedDefined s → NamedDefined (edited_sheet s edit place)
-named_edited s AddModule place h = h
-named_edited s (AddVariable m observed) place h = named_push s (record { «module» = m; observed = observed; name = None; body = None; place = 0 }) h (λ n. n)
-named_edited s (AddCell m cell observed) place h = named_push s (record { «module» = m; observed = observed; name = cell.name; body = Some (CellBody cell); place = place }) h (λ n. refl)
-named_edited s (Define v cell) place h = named_change s v (defined_by cell.name (CellBody cell) place) h (λ row n. refl)
-named_edited s (Import v name alias from) place h = named_change s v (defined_by (Some alias) (ImportBody name from) place) h (λ row n. refl)
-named_edited s (Delete v) place h = named_change s v undefined h (λ row n. n)
-named_edited s (Redefine m cell) place h =
-    named_change s (the_one_named s m cell.name) (λ row. record row { body = Some (CellBody cell); place = place }) h (λ row n. refl)
+named_edited s edit place h v row at = elim (edited_rows s edit place v row at) [
+  | inl old ↦ h v row old
+  | inr fresh ↦ fresh.named
+]
 
 named_after : (r : Reading) (e : Entry) → NamedDefined r.sheet → NamedDefined (after r e).sheet
 named_after r (EditEntry editor edit) h = named_edited r.sheet edit (r.entries + 1) h

@@ -1,8 +1,8 @@
 -- Which start a variable has after an entry.
 use Rattle.std.proofs.Common.{inl, inr, ℕ, zero, suc, ◌+◌, ◌-◌, ◌≡◌, ◌≢◌, refl, sym, ◌∙◌, ap, subst, true, false, not, ◌&&◌, is_some, List, [], ◌∷◌, ◌++◌, length, replicate, Option, Some, None, arith}
-use Rattle.std.specs.Prelude.{slice_get}
+use Rattle.std.specs.Prelude.{slice_get, set}
 use Rattle.std.proofs.lemmas.Bool.{cases_Bool, cases_eq, false≢true, eq-eqb}
-use Rattle.nb_sheet.specs.Lists.{nth, put, put_at, from_option, option_then}
+use Rattle.nb_sheet.specs.Lists.{nth, put, from_option, option_then}
 use Rattle.nb_sheet.specs.Sheet.{Sheet, edited_sheet}
 use Rattle.nb_value.specs.declared.outcome.Outcome.TheVariants.{Value as Shows, Error as Fails}
 use Rattle.nb_history.specs.Reading.{Reading, Start, start_of}
@@ -19,14 +19,14 @@ inside o = option_then o (λ s. s)
 
 -- ---- one variable's start is changed
 
-get_put_none : {A : Type 0} (xs : List A) (i : ℕ) (y : A) → slice_get xs i ≡ None → slice_get (put_at xs i y) i ≡ None
-get_put_none [] i y h = refl
-get_put_none (z ∷ xs) zero y h = absurd (cc)
-get_put_none (z ∷ xs) (suc i) y h = get_put_none xs i y h
+get_set_none : {A : Type 0} (xs : List A) (i : ℕ) (y : A) → slice_get xs i ≡ None → slice_get (set xs i y) i ≡ None
+get_set_none [] i y h = refl
+get_set_none (z ∷ xs) zero y h = absurd (cc)
+get_set_none (z ∷ xs) (suc i) y h = get_set_none xs i y h
 
 pub nth_put_none : {A : Type 0} (xs : List A) (v : ℕ) (y : A) → nth xs v ≡ None → nth (put xs v y) v ≡ None
 nth_put_none xs zero y h = refl
-nth_put_none xs (suc i) y h = get_put_none xs i y h
+nth_put_none xs (suc i) y h = get_set_none xs i y h
 
 pub start_put_other : (xs : List (Option Start)) (u v : ℕ) (x : Option Start) → u ≢ v → inside (nth (put xs u x) v) ≡ inside (nth xs v)
 start_put_other xs u v x other = ap inside (nth_put_other xs u v x other)

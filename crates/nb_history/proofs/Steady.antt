@@ -1,6 +1,6 @@
 -- What holds after every legal log, and what of it goes on holding of the variables whose start stays.
 use Rattle.std.proofs.Common.{inl, inr, ℕ, zero, suc, ◌≡◌, ◌≢◌, ◌+◌, ◌≤◌, refl, sym, ◌∙◌, ap, subst, Bool, true, false, cond, not, ◌⊎◌, List, [], ◌∷◌, map, arith, Option, Some, None, is_some}
-use Rattle.std.specs.Prelude.{slice_get}
+use Rattle.std.specs.Prelude.{slice_get, set}
 use Rattle.std.specs.List.{list_any}
 use Rattle.std.proofs.lemmas.Bool.{cases_eq, false≢true, false_from_ne_true}
 use Rattle.std.proofs.lemmas.Option.{none-some}
@@ -8,7 +8,7 @@ use Rattle.nb_value.specs.declared.value.Value.{Value}
 use Rattle.nb_value.specs.declared.pairs.Field.{Field}
 use Rattle.nb_value.specs.declared.outcome.Outcome.{Outcome}
 use Rattle.nb_sheet.specs.declared.row.VarRow.{VarRow}
-use Rattle.nb_sheet.specs.Lists.{nth, put, put_at, from_option, option_then}
+use Rattle.nb_sheet.specs.Lists.{nth, put, from_option, option_then}
 use Rattle.nb_sheet.specs.Sheet.{Sheet}
 use Rattle.nb_graph.specs.Needs.{has}
 use Rattle.nb_resolve.specs.Names.{direct, inputs}
@@ -76,7 +76,7 @@ start_there None s h = absurd (none-some s h)
 start_there (Some None) s h = absurd (none-some s h)
 start_there (Some (Some t)) s h = ap (λ (x : Option Start). Some x) h
 
-get_out : {A : Type 0} (xs : List A) (i : ℕ) (y : A) → slice_get xs i ≡ None → put_at xs i y ≡ xs
+get_out : {A : Type 0} (xs : List A) (i : ℕ) (y : A) → slice_get xs i ≡ None → set xs i y ≡ xs
 get_out [] i y h = refl
 get_out (x ∷ xs) zero y h = absurd (none-some x (sym h))
 get_out (x ∷ xs) (suc i) y h = ap (λ l. x ∷ l) (get_out xs i y h)

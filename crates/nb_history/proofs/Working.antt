@@ -1,10 +1,10 @@
 -- What each entry of a variable makes of the later pulls and of the entries that are left.
 use Rattle.std.proofs.Common.{ℕ, zero, suc, ◌+◌, ◌-◌, ◌*◌, ◌≡◌, ◌≤◌, ◌<◌, refl, ◌∙◌, ap, Bool, true, false, cond, ◌&&◌, ◌||◌, List, [], ◌∷◌, length, Option, Some, None, is_some, arith}
-use Rattle.std.specs.Prelude.{slice_get, nat_le}
+use Rattle.std.specs.Prelude.{slice_get, nat_le, set}
 use Rattle.std.proofs.lemmas.Bool.{false≢true}
 use Rattle.std.proofs.lemmas.Option.{none-some}
 use Rattle.nb_value.specs.declared.outcome.Answer.{Answer}
-use Rattle.nb_sheet.specs.Lists.{nth, put, put_at, option_then}
+use Rattle.nb_sheet.specs.Lists.{nth, put, option_then}
 use Rattle.nb_history.specs.Reading.{Reading, Start, Footing, start_of}
 use Rattle.nb_history.specs.Rules.{footing}
 use Rattle.nb_history.specs.Log.{after, new_start}
@@ -17,23 +17,23 @@ use Rattle.nb_history.proofs.NextEntry.{IsOutcome, outcome_start, outcome_starts
 
 -- ---- sums over the starts
 
-over_put_at : (f : Option Start → ℕ) (xs : List (Option Start)) (i : ℕ) (x y : Option Start) → slice_get xs i ≡ Some x → over_starts f (put_at xs i y) + f x ≡ over_starts f xs + f y
-over_put_at f [] i x y h = absurd (cc)
-over_put_at f (z ∷ xs) zero x y h = let e : z ≡ x = cc in let g : f z ≡ f x = ap f e in omega (arith, g)
-over_put_at f (z ∷ xs) (suc i) x y h = omega (arith, over_put_at f xs i x y h)
+over_set : (f : Option Start → ℕ) (xs : List (Option Start)) (i : ℕ) (x y : Option Start) → slice_get xs i ≡ Some x → over_starts f (set xs i y) + f x ≡ over_starts f xs + f y
+over_set f [] i x y h = absurd (cc)
+over_set f (z ∷ xs) zero x y h = let e : z ≡ x = cc in let g : f z ≡ f x = ap f e in omega (arith, g)
+over_set f (z ∷ xs) (suc i) x y h = omega (arith, over_set f xs i x y h)
 
 pub over_put : (f : Option Start → ℕ) (xs : List (Option Start)) (v : ℕ) (x y : Option Start) → nth xs v ≡ Some x → over_starts f (put xs v y) + f x ≡ over_starts f xs + f y
 over_put f xs zero x y h = absurd (cc)
-over_put f xs (suc i) x y h = over_put_at f xs i x y h
+over_put f xs (suc i) x y h = over_set f xs i x y h
 
-over_put_at_le : (f : Option Start → ℕ) (xs : List (Option Start)) (i : ℕ) (y : Option Start) → over_starts f (put_at xs i y) ≤ over_starts f xs + f y
-over_put_at_le f [] i y = omega arith
-over_put_at_le f (z ∷ xs) zero y = omega arith
-over_put_at_le f (z ∷ xs) (suc i) y = omega (arith, over_put_at_le f xs i y)
+over_set_le : (f : Option Start → ℕ) (xs : List (Option Start)) (i : ℕ) (y : Option Start) → over_starts f (set xs i y) ≤ over_starts f xs + f y
+over_set_le f [] i y = omega arith
+over_set_le f (z ∷ xs) zero y = omega arith
+over_set_le f (z ∷ xs) (suc i) y = omega (arith, over_set_le f xs i y)
 
 pub over_put_le : (f : Option Start → ℕ) (xs : List (Option Start)) (v : ℕ) (y : Option Start) → over_starts f (put xs v y) ≤ over_starts f xs + f y
 over_put_le f xs zero y = omega arith
-over_put_le f xs (suc i) y = over_put_at_le f xs i y
+over_put_le f xs (suc i) y = over_set_le f xs i y
 
 -- ---- what closes
 

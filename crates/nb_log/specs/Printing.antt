@@ -1,5 +1,5 @@
 -- The log as it is printed: each entry is a value, whose compact JSON is its line.
-use Rattle.std.specs.Prelude.{ℕ, ◌+◌, Bool, true, false, List, [], ◌∷◌, ◌++◌, codes, pos, Option, Some, None}
+use Rattle.std.specs.Prelude.{ℕ, ◌+◌, Bool, true, false, List, [], ◌∷◌, ◌++◌, map, codes, pos, Option, Some, None}
 use Rattle.nb_value.specs.declared.value.Value.{Value}
 use Rattle.nb_value.specs.declared.value.Value.TheVariants as V
 use Rattle.nb_value.specs.declared.pairs.Field.{Field}
@@ -15,7 +15,8 @@ use Rattle.nb_value.specs.Json.{json_text}
 use Rattle.nb_syntax.specs.Print.{cell_text}
 use Rattle.nb_syntax.specs.declared.tree.Cell.{Cell}
 use Rattle.nb_sheet.specs.declared.edit.Edit.{Edit}
-use Rattle.nb_sheet.specs.declared.edit.Edit.TheVariants.{AddModule, AddVariable, AddCell, Define, Import, Delete, Redefine}
+use Rattle.nb_sheet.specs.declared.edit.Edit.TheVariants.{AddModule, AddVariable, AddCell, Define, Import, Delete, Redefine, Derive}
+use Rattle.nb_sheet.specs.declared.edit.Specifier.{Specifier}
 use Rattle.nb_log.specs.declared.event.Target.{Target}
 use Rattle.nb_log.specs.declared.event.Target.TheVariants.{Ticket, Key}
 use Rattle.nb_log.specs.declared.event.Event.{Event}
@@ -45,6 +46,9 @@ abbrev pub answer_field : Answer → Field Value
 answer_field (Given x) = field (codes "value") x
 answer_field (Failure t) = field (codes "error") (V.Text t)
 
+abbrev pub specifier_object : Specifier → Value
+specifier_object s = V.Rec (field (codes "alias") (V.Text s.alias) ∷ field (codes "name") (V.Text s.name) ∷ [])
+
 abbrev pub edit_object : Edit → Value
 edit_object AddModule = V.Rec (field (codes "do") (V.Text (codes "module")) ∷ [])
 edit_object (AddVariable m observed) =
@@ -58,6 +62,8 @@ edit_object (Import v name alias from) =
 edit_object (Delete v) = V.Rec (field (codes "do") (V.Text (codes "delete")) ∷ field (codes "variable") (number v) ∷ [])
 edit_object (Redefine m cell) =
     V.Rec (field (codes "cell") (V.Text (cell_text cell)) ∷ field (codes "do") (V.Text (codes "redefine")) ∷ field (codes "module") (number m) ∷ [])
+edit_object (Derive m specifiers source) =
+    V.Rec (field (codes "do") (V.Text (codes "derive")) ∷ field (codes "module") (number m) ∷ field (codes "source") (number source) ∷ field (codes "with") (V.List (map specifier_object specifiers)) ∷ [])
 
 abbrev pub settle_fields : Target → Answer → List (Field Value)
 settle_fields (Ticket t) (Given x) = field (codes "do") (V.Text (codes "settle")) ∷ field (codes "ticket") (number t) ∷ field (codes "value") x ∷ []

@@ -1,16 +1,16 @@
 //! Edits and events as text: their canonical objects.
 
-ghost use Rattle.std.specs.Prelude.{◌≡◌, [], ◌∷◌, ◌++◌, codes, OnOk};
+ghost use Rattle.std.specs.Prelude.{◌≡◌, [], ◌∷◌, ◌++◌, map, codes, OnOk};
 ghost use Rattle.nb_value.specs.declared.value.Value.TheVariants as V;
 ghost use Rattle.nb_value.specs.Json.{json_text};
 ghost use Rattle.nb_syntax.specs.Print.{cell_text};
-ghost use Rattle.nb_log.specs.Printing.{number, field, settle_fields, edit_object, event_object};
+ghost use Rattle.nb_log.specs.Printing.{number, field, settle_fields, specifier_object, edit_object, event_object};
 ghost use Rattle.nb_log.specs.Objects.{target_field};
-ghost use Rattle.nb_log.specs.Pieces.{field_text};
+ghost use Rattle.nb_log.specs.Pieces.{field_text, items_after};
 
 use crate::event::{Event, Target};
 use crate::piece::{push_number, push_text, push_truth, push_value};
-use nb_sheet::Edit;
+use nb_sheet::{Edit, Specifier};
 use nb_syntax::{Cell, print};
 use nb_value::{Answer, Bytes, Text, Value};
 use std::alloc::{AllocError, Global};
@@ -53,6 +53,11 @@ pub(crate) fn push_edit(alloc: Global, out: &mut Bytes, edit: &Edit) -> Result<(
         Edit::Redefine { module, cell } => {
             push_cell_at(alloc, out, "redefine", "module", *module, cell)
         }
+        Edit::Derive {
+            module,
+            with,
+            source,
+        } => push_derive(alloc, out, *module, with.as_slice(), *source),
     }
 }
 
@@ -131,6 +136,70 @@ fn push_delete(alloc: Global, out: &mut Bytes, variable: u32) -> Result<(), Allo
 {
     open(alloc, out, "do", "delete")?;
     push_number_at(alloc, out, "variable", variable)?;
+    out.append(b"}")
+}
+
+fn push_derive(
+    alloc: Global,
+    out: &mut Bytes,
+    within: u32,
+    specifiers: &[Specifier],
+    source: u32,
+) -> Result<(), AllocError>
+    ensures { OnOk result (out.new ≡ out.old ++ json_text (edit_object (Edit.Derive within specifiers.now source))) }
+{
+    open(alloc, out, "do", "derive")?;
+    push_number_at(alloc, out, "module", within)?;
+    push_number_at(alloc, out, "source", source)?;
+    push_with(alloc, out, specifiers)?;
+    out.append(b"}")
+}
+
+// The field of the specifiers.
+#[tactic(auto, using(crate::proofs::PieceLemmas::records))]
+fn push_with(alloc: Global, out: &mut Bytes, specifiers: &[Specifier]) -> Result<(), AllocError>
+    ensures { OnOk result (out.new ≡ out.old ++ 44 ∷ field_text (field (codes "with") (V.List (map specifier_object specifiers.now)))) }
+{
+    push_key(alloc, out, "with")?;
+    push_specifiers(alloc, out, specifiers)
+}
+
+// The specifiers as an array.
+#[tactic(auto, using(crate::proofs::PieceLemmas::pieces))]
+fn push_specifiers(
+    alloc: Global,
+    out: &mut Bytes,
+    specifiers: &[Specifier],
+) -> Result<(), AllocError>
+    ensures { OnOk result (out.new ≡ out.old ++ json_text (V.List (map specifier_object specifiers.now))) }
+{
+    match specifiers.split_first() {
+        None => out.append(b"[]"),
+        Some((first, others)) => {
+            out.append(b"[")?;
+            push_specifier(alloc, out, first)?;
+            push_further(alloc, out, others)?;
+            out.append(b"]")
+        }
+    }
+}
+
+// Each specifier behind a comma.
+fn push_further(alloc: Global, out: &mut Bytes, specifiers: &[Specifier]) -> Result<(), AllocError>
+    ensures { OnOk result (out.new ≡ out.old ++ items_after (map specifier_object specifiers.now)) }
+{
+    for specifier in specifiers {
+        out.append(b",")?;
+        push_specifier(alloc, out, specifier)?;
+    }
+    Ok(())
+}
+
+fn push_specifier(alloc: Global, out: &mut Bytes, specifier: &Specifier) -> Result<(), AllocError>
+    ensures { OnOk result (out.new ≡ out.old ++ json_text (specifier_object specifier.now)) }
+{
+    open(alloc, out, "alias", specifier.alias.as_str())?;
+    push_text_at(alloc, out, "name", specifier.name.as_str())?;
     out.append(b"}")
 }
 

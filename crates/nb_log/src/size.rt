@@ -1,15 +1,15 @@
 //! The size of an entry, which is that of the array it prints as. Sizes stop at the end of u64.
 
-ghost use Rattle.std.specs.Prelude.{◌≡◌, ◌+◌, ◌-◌, ◌^◌, length, min, sum_by};
+ghost use Rattle.std.specs.Prelude.{◌≡◌, ◌+◌, ◌-◌, ◌^◌, length, map, min, sum_by};
 ghost use Rattle.nb_value.specs.Value.{size};
-ghost use Rattle.nb_log.specs.Printing.{text_or_null, edit_object, event_object, answer_field, answer_items, error_items, entry_size};
+ghost use Rattle.nb_log.specs.Printing.{text_or_null, specifier_object, edit_object, event_object, answer_field, answer_items, error_items, entry_size};
 ghost use Rattle.nb_log.specs.Size.{field_size, target_size};
 ghost use Rattle.nb_syntax.specs.Print.{cell_text};
 
 use crate::entry::Entry;
 use crate::event::{Event, Target};
 use crate::names::{kind_name, refusal_name};
-use nb_sheet::Edit;
+use nb_sheet::{Edit, Specifier};
 use nb_syntax::{Cell, printed_len};
 use nb_value::{Answer, CellError, Text, Value};
 
@@ -21,6 +21,8 @@ const OBSERVED: u64 = 10;
 const VARIABLE: u64 = 10;
 
 const FROM: u64 = 6;
+
+const SOURCE: u64 = 8;
 
 const TICKET: u64 = 8;
 
@@ -152,7 +154,35 @@ fn edit_size(edit: &Edit) -> u64
         Edit::Redefine { module: _, cell } => {
             object_size("redefine", cell_field(cell).saturating_add(MODULE))
         }
+        Edit::Derive {
+            module: _,
+            with,
+            source: _,
+        } => {
+            let specifiers = value_field("with", specifiers_size(with.as_slice()));
+            object_size("derive", specifiers.saturating_add(MODULE + SOURCE))
+        }
     }
+}
+
+// One for the list, and what each specifier takes.
+fn specifiers_size(specifiers: &[Specifier]) -> u64
+    ensures { result ≡ min (1 + sum_by size (map specifier_object specifiers.now)) (2 ^ 64 - 1) }
+{
+    let mut sum = 1u64;
+    for specifier in specifiers {
+        sum = sum.saturating_add(specifier_size(specifier));
+    }
+    sum
+}
+
+#[tactic(auto, using(crate::proofs::SizeLemmas::sizes))]
+fn specifier_size(specifier: &Specifier) -> u64
+    ensures { result ≡ min (size (specifier_object specifier.now)) (2 ^ 64 - 1) }
+{
+    value_field("alias", text_size(&specifier.alias))
+        .saturating_add(value_field("name", text_size(&specifier.name)))
+        .saturating_add(1)
 }
 
 fn cell_field(cell: &Cell) -> u64

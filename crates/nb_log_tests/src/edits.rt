@@ -278,23 +278,19 @@ fn all_come_out(alloc: Global, sheet: &mut Sheet, steps: &[Step]) -> Result<bool
     Ok(true)
 }
 
-// Whether the last variable goes.
-fn retracts(sheet: &mut Sheet) -> bool {
-    let last = sheet.rows().len();
-    if last == 0 {
-        return false;
-    }
-    sheet.retract();
-    sheet.rows().len() == last - 1
+// Whether an undo without a mark takes all edits back.
+fn goes_back(sheet: &mut Sheet) -> bool {
+    sheet.undo();
+    sheet.modules() == 1 && sheet.rows().is_empty()
 }
 
-// Whether the steps come out on a new sheet, and the last variable can go.
+// Whether the steps come out on a new sheet, and are then taken back.
 fn plays(alloc: Global, steps: &[Step]) -> Result<bool, AllocError> {
     let mut sheet = Sheet::new(alloc, Pairs::new(alloc))?;
     let come_out = all_come_out(alloc, &mut sheet, steps);
-    let retracted = retracts(&mut sheet);
+    let back = goes_back(&mut sheet);
     drop(sheet);
-    Ok(come_out? && retracted)
+    Ok(come_out? && back)
 }
 
 #[test]

@@ -74,7 +74,7 @@ fn built_in(at: Option<u32>) -> Resolution
 /// builtin of that name, or `Missing`. In a module that isn't there only builtins have names. It takes no memory, and
 /// costs a scan over the variables, and one over the builtins where none of them has the name.
 pub fn resolve(sheet: &Sheet, within: u32, name: &str) -> Resolution
-    ensures { result ≡ resolve_of sheet.now within name.now }
+    ensures { result ≡ resolve_of sheet.now.sheet within name.now }
 {
     match by_variables(sheet.rows(), within, name) {
         Resolution::Missing => built_in(builtin(sheet.builtins(), name)),
@@ -98,14 +98,14 @@ fn is_twin(rows: &[VarRow], row: &VarRow) -> bool
 
 /// Whether another variable of its module has a row's name.
 fn is_duplicate_in(sheet: &Sheet, row: &VarRow) -> bool
-    ensures { result ≡ is_duplicate_row sheet.now row.now }
+    ensures { result ≡ is_duplicate_row sheet.now.sheet row.now }
 {
     is_twin(sheet.rows(), row)
 }
 
 /// Whether another variable of its module has a variable's name. It takes no memory, and costs a scan over the variables.
 pub fn is_duplicate(sheet: &Sheet, var: u32) -> bool
-    ensures { result ≡ duplicate sheet.now var }
+    ensures { result ≡ duplicate sheet.now.sheet var }
 {
     match sheet.variable(var) {
         None => false,
@@ -120,7 +120,7 @@ fn resolve_all(
     within: u32,
     names: &[Text],
 ) -> Result<Vec<Input>, AllocError>
-    ensures { IfOk result (λ inputs. inputs.items ≡ map (λ n. (n, resolve_of sheet.now within n)) names.now) }
+    ensures { IfOk result (λ inputs. inputs.items ≡ map (λ n. (n, resolve_of sheet.now.sheet within n)) names.now) }
 {
     let mut inputs = Vec::new(alloc);
     for name in names {
@@ -137,7 +137,7 @@ fn cell_inputs(
     within: u32,
     cell: &Cell,
 ) -> Result<Vec<Input>, AllocError>
-    ensures { IfOk result (λ inputs. inputs.items ≡ map (λ n. (n, resolve_of sheet.now within n)) (free cell.now)) }
+    ensures { IfOk result (λ inputs. inputs.items ≡ map (λ n. (n, resolve_of sheet.now.sheet within n)) (free cell.now)) }
 {
     let names = free_names(alloc, cell)?;
     let found = resolve_all(alloc, sheet, within, names.as_slice())?;
@@ -151,7 +151,7 @@ fn inputs_of_body(
     within: u32,
     body: &Option<BodyOf>,
 ) -> Result<Vec<Input>, AllocError>
-    ensures { IfOk result (λ inputs. inputs.items ≡ body_inputs sheet.now within body.now) }
+    ensures { IfOk result (λ inputs. inputs.items ≡ body_inputs sheet.now.sheet within body.now) }
 {
     match body {
         None => Ok(Vec::new(alloc)),
@@ -175,8 +175,8 @@ fn inputs_of_row(
     row: &VarRow,
     is_duplicate: bool,
 ) -> Result<Vec<Input>, AllocError>
-    requires { is_duplicate ≡ is_duplicate_row sheet.now row.now }
-    ensures { IfOk result (λ inputs. inputs.items ≡ row_inputs sheet.now row.now) }
+    requires { is_duplicate ≡ is_duplicate_row sheet.now.sheet row.now }
+    ensures { IfOk result (λ inputs. inputs.items ≡ row_inputs sheet.now.sheet row.now) }
 {
     if is_duplicate {
         return Ok(Vec::new(alloc));
@@ -190,7 +190,7 @@ fn inputs_of_row(
 /// that names no variable have none. It costs a scan over variables and builtins for each input, and fails only
 /// without memory.
 pub fn inputs(alloc: Global, sheet: &Sheet, var: u32) -> Result<Vec<Input>, AllocError>
-    ensures { IfOk result (λ inputs. inputs.items ≡ inputs_of sheet.now var) }
+    ensures { IfOk result (λ inputs. inputs.items ≡ inputs_of sheet.now.sheet var) }
 {
     inputs_where(alloc, sheet, var, is_duplicate(sheet, var))
 }
@@ -202,8 +202,8 @@ pub fn inputs_where(
     var: u32,
     is_duplicate: bool,
 ) -> Result<Vec<Input>, AllocError>
-    requires { is_duplicate ≡ duplicate sheet.now var }
-    ensures { IfOk result (λ inputs. inputs.items ≡ inputs_of sheet.now var) }
+    requires { is_duplicate ≡ duplicate sheet.now.sheet var }
+    ensures { IfOk result (λ inputs. inputs.items ≡ inputs_of sheet.now.sheet var) }
 {
     match sheet.variable(var) {
         None => Ok(Vec::new(alloc)),

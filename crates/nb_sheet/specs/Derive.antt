@@ -78,16 +78,16 @@ import_of source s = record { name = s.alias; body = ImportBody s.name source }
 abbrev pub first_vars : ℕ → List Specifier → ℕ → ℕ → List NewVar
 first_vars m specifiers source k = cond (k == m) (map (import_of source) specifiers) []
 
-abbrev pub module_copy : Modules → List VarRow → ℕ → List Specifier → ℕ → List ℕ → ℕ → NewModule
-module_copy modules rows m specifiers source copied k = record {
-  variables = first_vars m specifiers source k ++ flat_map (λ (row : VarRow). copied_var (length modules) copied row.name row.body) (copied_of m specifiers rows k);
+abbrev pub module_copy : ℕ → List VarRow → ℕ → List Specifier → ℕ → List ℕ → ℕ → NewModule
+module_copy next rows m specifiers source copied k = record {
+  variables = first_vars m specifiers source k ++ flat_map (λ (row : VarRow). copied_var next copied row.name row.body) (copied_of m specifiers rows k);
 }
 
 -- the copies of a derive, the first that of m
 abbrev pub derived : Modules → List VarRow → ℕ → List Specifier → ℕ → List NewModule
 derived modules rows m specifiers source =
     let copied = copied_modules modules rows m specifiers in
-    map (module_copy modules rows m specifiers source copied) copied
+    map (module_copy (length modules) rows m specifiers source copied) copied
 
 -- ---- the rows that they get
 

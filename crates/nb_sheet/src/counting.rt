@@ -51,7 +51,7 @@ fn count_in(
     copied: &[u32],
     k: u32,
 ) -> usize
-    ensures { result ≡ length (NewModule.variables (module_copy sheet.now.sheet.modules sheet.now.sheet.rows within specifiers.now source copied.now k)) }
+    ensures { result ≡ length (NewModule.variables (module_copy (length sheet.now.sheet.modules) sheet.now.sheet.rows within specifiers.now source copied.now k)) }
 {
     let count = count_copied(sheet, within, specifiers, copied, k);
     if k == within {
@@ -68,7 +68,7 @@ pub fn count_all(
     source: u32,
     copied: &[u32],
 ) -> usize
-    ensures { result ≡ min (variables_of (map (module_copy sheet.now.sheet.modules sheet.now.sheet.rows within specifiers.now source copied.now) copied.now)) (2 ^ 64 - 1) }
+    ensures { result ≡ min (variables_of (map (module_copy (length sheet.now.sheet.modules) sheet.now.sheet.rows within specifiers.now source copied.now) copied.now)) (2 ^ 64 - 1) }
 {
     let mut count: usize = 0;
     for k in copied {

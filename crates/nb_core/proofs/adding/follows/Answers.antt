@@ -6,9 +6,9 @@ use Rattle.nb_core.proofs.adding.follows.Goals as goal
 pub close-requires-clause-ties : goal.close-requires-clause-ties
 close-requires-clause-ties c =
     c.deref.ensures.value ∙ c.in_ok-tied.ensures.ties
-    ∙ ap all_ties (read_sheet c.args.sheet.now c.builtins.result.now c.rows.result.now c.requires.one_module c.builtins.ensures.value c.rows.ensures.value)
+    ∙ ap all_ties (read_sheet c.args.sheet.now.sheet c.builtins.result.now c.rows.result.now c.requires.one_module c.builtins.ensures.value c.rows.ensures.value)
 
 pub close-requires-clause-graph : goal.close-requires-clause-graph
 close-requires-clause-graph c =
     c.in_ok-tied.ensures.graph
-    ∙ ap graph_of (read_sheet c.args.sheet.now c.builtins.result.now c.rows.result.now c.requires.one_module c.builtins.ensures.value c.rows.ensures.value)
+    ∙ ap graph_of (read_sheet c.args.sheet.now.sheet c.builtins.result.now c.rows.result.now c.requires.one_module c.builtins.ensures.value c.rows.ensures.value)

@@ -10,7 +10,7 @@ use Rattle.nb_core.proofs.inputs.work.Goals as goal
 pub row_work-requires-clause-inputs : goal.row_work-requires-clause-inputs
 row_work-requires-clause-inputs c =
     c.deref.ensures.value ∙ c.in_ok-found.ensures
-    ∙ ap (λ (s : Sheet). inputs s c.args.v) (read_sheet c.args.sheet.now c.builtins-builtins.result.now c.rows-rows.result.now c.requires.one_module c.builtins-builtins.ensures.value c.rows-rows.ensures.value)
+    ∙ ap (λ (s : Sheet). inputs s c.args.v) (read_sheet c.args.sheet.now.sheet c.builtins-builtins.result.now c.rows-rows.result.now c.requires.one_module c.builtins-builtins.ensures.value c.rows-rows.ensures.value)
 
 pub row_work-requires-clause-duplicate : goal.row_work-requires-clause-duplicate
 row_work-requires-clause-duplicate c =

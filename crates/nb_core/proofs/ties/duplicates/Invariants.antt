@@ -4,4 +4,4 @@ use Rattle.nb_resolve.specs.Names.{duplicate}
 use Rattle.nb_core.proofs.ties.duplicates.Given as goal
 
 abbrev pub invariant-loop-i : goal.invariant-loop-i
-invariant-loop-i l = l.all.items ≡ map (duplicate l.sheet) (range_with_len 1 l.i)
+invariant-loop-i l = l.all.items ≡ map (duplicate l.sheet.sheet) (range_with_len 1 l.i)

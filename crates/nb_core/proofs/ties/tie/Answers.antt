@@ -10,7 +10,7 @@ graph_by_inputs-requires-clause-few c =
     omega (arith, same, c.in_ok-all.ensures.few)
 
 pub graph_by_inputs-requires-clause-within : goal.graph_by_inputs-requires-clause-within
-graph_by_inputs-requires-clause-within c = inputs_within c.args.sheet.now c.deref-2.result.now (c.deref-2.ensures.value ∙ c.in_ok-all.ensures.inputs)
+graph_by_inputs-requires-clause-within c = inputs_within c.args.sheet.now.sheet c.deref-2.result.now (c.deref-2.ensures.value ∙ c.in_ok-all.ensures.inputs)
 
 pub tied_all-requires-clause-few : goal.tied_all-requires-clause-few
 tied_all-requires-clause-few c =

@@ -3,4 +3,4 @@ use Rattle.nb_resolve.specs.Names.{resolve}
 use Rattle.nb_resolve.proofs.names.resolve_all.Given as goal
 
 abbrev pub invariant-loop-name : goal.invariant-loop-name
-invariant-loop-name l = l.inputs.items ≡ map (λ n. (n, resolve l.sheet l.within n)) (take l.name-index l.names)
+invariant-loop-name l = l.inputs.items ≡ map (λ n. (n, resolve l.sheet.sheet l.within n)) (take l.name-index l.names)

@@ -11,14 +11,14 @@ use Rattle.nb_core.proofs.machine.Core.event.Goals as goal
 pub refuse-requires-clause-refused : goal.refuse-requires-clause-refused
 refuse-requires-clause-refused c =
     let full : 4000000 < total_size c.self.inside.log.entries = omega (arith, c.size.ensures) in
-    told_full c.self.inside.sheet.builtins c.self.inside.sheet.rows c.self.inside.starts.items c.self.inside.log.entries c.self.invariant.0 c.args.self.now c.self.view_is
+    told_full c.self.inside.sheet.sheet.builtins c.self.inside.sheet.sheet.rows c.self.inside.starts.items c.self.inside.log.entries c.self.invariant.0 c.args.self.now c.self.view_is
     c.args.editor c.args.event c.requires.form full
 
 pub refuse-requires-in-Err-clause-refused : goal.refuse-requires-in-Err-clause-refused
 refuse-requires-in-Err-clause-refused c =
     let room : total_size c.self.inside.log.entries ≤ 4000000 = omega (arith, c.size.ensures) in
-    let against : refusal c.self.inside.sheet c.edit_of.result.now ≡ Some c.in-Err.refused = sym c.check.ensures ∙ ap reason c.in-Err.is in
-    told_refusal c.self.inside.sheet c.self.invariant.1 c.self.inside.starts.items c.self.inside.log.entries c.self.invariant.0 c.args.self.now c.self.view_is
+    let against : refusal c.self.inside.sheet.sheet c.edit_of.result.now ≡ Some c.in-Err.refused = sym c.check.ensures ∙ ap reason c.in-Err.is in
+    told_refusal c.self.inside.sheet.sheet c.self.invariant.1 c.self.inside.starts.items c.self.inside.log.entries c.self.invariant.0 c.args.self.now c.self.view_is
     c.args.editor c.args.event c.edit_of.result.now c.requires.form c.edit_of.ensures
     c.in-Err.refused room against
     ∙ ap (λ (x : Refusal). Refused c.args.editor x c.args.event) (sym c.refusal_of.ensures)
@@ -31,15 +31,15 @@ add-requires-clause-room c =
 
 pub add-requires-clause-clear : goal.add-requires-clause-clear
 add-requires-clause-clear c =
-    let clear : refusal c.self.inside.sheet c.edit_of.result.now ≡ None = sym c.check.ensures ∙ ap reason c.in-Ok.is in
-    told_clear c.self.inside.sheet c.self.invariant.1 c.self.inside.starts.items c.self.inside.log.entries c.self.invariant.0 c.args.self.now c.self.view_is
+    let clear : refusal c.self.inside.sheet.sheet c.edit_of.result.now ≡ None = sym c.check.ensures ∙ ap reason c.in-Ok.is in
+    told_clear c.self.inside.sheet.sheet c.self.invariant.1 c.self.inside.starts.items c.self.inside.log.entries c.self.invariant.0 c.args.self.now c.self.view_is
     c.args.editor c.args.event c.edit_of.result.now c.requires.form c.edit_of.ensures
     clear
 
 pub add-requires-clause-admitted : goal.add-requires-clause-admitted
 add-requires-clause-admitted c =
     let room : total_size c.self.inside.log.entries ≤ 4000000 = omega (arith, c.size.ensures) in
-    let clear : refusal c.self.inside.sheet c.edit_of.result.now ≡ None = sym c.check.ensures ∙ ap reason c.in-Ok.is in
-    told_admitted c.self.inside.sheet c.self.invariant.1 c.self.inside.starts.items c.self.inside.log.entries c.self.invariant.0 c.args.self.now c.self.view_is
+    let clear : refusal c.self.inside.sheet.sheet c.edit_of.result.now ≡ None = sym c.check.ensures ∙ ap reason c.in-Ok.is in
+    told_admitted c.self.inside.sheet.sheet c.self.invariant.1 c.self.inside.starts.items c.self.inside.log.entries c.self.invariant.0 c.args.self.now c.self.view_is
     c.args.editor c.args.event c.edit_of.result.now c.requires.form c.edit_of.ensures
     room clear

@@ -6,8 +6,8 @@ use Rattle.nb_core.proofs.machine.Core.next_ready.Goals as goal
 
 pub returns-clause-found : goal.returns-clause-found
 returns-clause-found c =
-    told_found c.self.inside.sheet.builtins c.self.inside.sheet.rows c.self.inside.starts.items c.self.inside.log.entries c.self.invariant.0 c.args.self.now c.self.view_is
+    told_found c.self.inside.sheet.sheet.builtins c.self.inside.sheet.sheet.rows c.self.inside.starts.items c.self.inside.log.entries c.self.invariant.0 c.args.self.now c.self.view_is
     c.deref.result.now c.next_ready.result c.deref.ensures.value c.next_ready.ensures
 
 pub returns-clause-rest : goal.returns-clause-rest
-returns-clause-rest c = λ rests v w. told_scratch c.self.inside.sheet.builtins c.self.inside.sheet.rows c.self.inside.starts.items c.self.inside.log.entries c.self.invariant.0 c.args.self.now c.self.view_is v (shown (standing c.args.self.now) v) refl rests w
+returns-clause-rest c = λ rests v w. told_scratch c.self.inside.sheet.sheet.builtins c.self.inside.sheet.sheet.rows c.self.inside.starts.items c.self.inside.log.entries c.self.invariant.0 c.args.self.now c.self.view_is v (shown (standing c.args.self.now) v) refl rests w

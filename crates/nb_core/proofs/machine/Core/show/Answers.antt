@@ -7,7 +7,7 @@ use Rattle.nb_core.proofs.machine.Core.show.Goals as goal
 pub invariant_of-self : goal.invariant_of-self
 invariant_of-self c =
     let done =
-    told_completed c.self.inside.sheet.builtins c.self.inside.sheet.rows c.self.inside.starts.items c.self.inside.log.entries c.self.invariant.0 c.args.self.now c.self.view_is
+    told_completed c.self.inside.sheet.sheet.builtins c.self.inside.sheet.sheet.rows c.self.inside.starts.items c.self.inside.log.entries c.self.invariant.0 c.args.self.now c.self.view_is
     c.args.var c.requires.ready c.args.done c.in-Ok.copy c.outcome.result c.show.new.starts.items c.push.new.self.entries c.requires.work c.in-Ok.ensures c.outcome.ensures
     (c.push.ensures.entries ∙ ap (λ (l : List Entry). l ++ c.entry_of.result ∷ []) c.in-Ok-reserve.ensures.same ∙ ap (λ (e : Entry). c.self.inside.log.entries ++ e ∷ []) c.entry_of.ensures)
     c.show.ensures in
@@ -16,7 +16,7 @@ invariant_of-self c =
 pub returns-in-Ok-reserve-clause-ok : goal.returns-in-Ok-reserve-clause-ok
 returns-in-Ok-reserve-clause-ok c =
     let done =
-    told_completed c.self.inside.sheet.builtins c.self.inside.sheet.rows c.self.inside.starts.items c.self.inside.log.entries c.self.invariant.0 c.args.self.now c.self.view_is
+    told_completed c.self.inside.sheet.sheet.builtins c.self.inside.sheet.sheet.rows c.self.inside.starts.items c.self.inside.log.entries c.self.invariant.0 c.args.self.now c.self.view_is
     c.args.var c.requires.ready c.args.done c.in-Ok.copy c.outcome.result c.show.new.starts.items c.push.new.self.entries c.requires.work c.in-Ok.ensures c.outcome.ensures
     (c.push.ensures.entries ∙ ap (λ (l : List Entry). l ++ c.entry_of.result ∷ []) c.in-Ok-reserve.ensures.same ∙ ap (λ (e : Entry). c.self.inside.log.entries ++ e ∷ []) c.entry_of.ensures)
     c.show.ensures in
