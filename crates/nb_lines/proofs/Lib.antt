@@ -1,4 +1,5 @@
 pub mod DataLemmas
+pub mod EditorLemmas
 pub mod FaultLemmas
 pub mod FieldLemmas
 pub mod LineLemmas

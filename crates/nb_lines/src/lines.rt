@@ -1,4 +1,4 @@
-ghost use Rattle.std.specs.Prelude.{◌≡◌, ◌≤◌, ◌<◌, ◌==◌, [], ◌∷◌, length, IfOk, IfSome, IfNone};
+ghost use Rattle.std.specs.Prelude.{◌≡◌, ◌≤◌, ◌<◌, ◌==◌, [], ◌∷◌, length, All, IfOk, IfSome, IfNone};
 ghost use Rattle.std.specs.List.{position_or_len};
 ghost use Rattle.nb_lines.specs.Lines.{ReadsLines, Reads, AddsLine, lines, numbered, without_last_feed, first_among, said, is_blank, line_number};
 
@@ -18,7 +18,9 @@ const LONGEST_LINE: usize = 65_536;
 /// A blank line is passed over and counted. Linear in the input; a fault is answered without reading on.
 #[tactic(auto, unfolding(crate::specs::Lines::first_bad, crate::specs::Lines::scripts))]
 pub fn read_lines(alloc: Global, bytes: &[u8]) -> Result<Scripts, LineFail>
-    ensures { ReadsLines bytes.now result }
+    ensures lines { ReadsLines bytes.now result }
+    // Each line is that of one of eight editors.
+    ensures editors { IfOk result (All (λ s. s.editor < 8)) }
 {
     read_all(alloc, without_last_feed(bytes))
 }

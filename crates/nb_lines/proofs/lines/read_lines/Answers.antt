@@ -1,0 +1,8 @@
+-- The editors of the lines.
+use Rattle.nb_lines.specs.Lines.{lines, numbered, first_among}
+use Rattle.nb_lines.proofs.EditorLemmas.{editors_of}
+use Rattle.nb_lines.proofs.lines.read_lines.Goals as goal
+
+pub returns-clause-editors : goal.returns-clause-editors
+returns-clause-editors c =
+    editors_of (first_among (numbered 1 (lines c.without_last_feed.result.now))) (numbered 1 (lines c.without_last_feed.result.now)) c.read_all.result c.read_all.ensures
