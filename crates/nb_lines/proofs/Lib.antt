@@ -3,3 +3,4 @@ pub mod EditorLemmas
 pub mod FaultLemmas
 pub mod FieldLemmas
 pub mod LineLemmas
+pub mod Once

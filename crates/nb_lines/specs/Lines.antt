@@ -72,6 +72,11 @@ Reads bad all (Err Memory) = ⊤
 abbrev pub ReadsLines : List ℕ → Result (List ScriptLine) LineFail → Type 0
 ReadsLines bytes result = Reads (first_bad bytes) (scripts bytes) result
 
+-- what holds of a call's answer, unless memory ran out
+abbrev pub UnlessMemory : {X : Type 0} → Result X LineFail → Type 0 → Type 0
+UnlessMemory (Err Memory) claim = ⊤
+UnlessMemory _ claim = claim
+
 -- each line's editor and event
 abbrev pub script_lines : List ScriptLine → List (ℕ × Event)
 script_lines = map (λ s. (s.editor, s.event))

@@ -1,6 +1,8 @@
-ghost use Rattle.std.specs.Prelude.{◌≡◌, ◌≤◌, ◌<◌, ◌==◌, [], ◌∷◌, length, All, IfOk, IfSome, IfNone};
+ghost use Rattle.std.specs.Prelude.{◌≡◌, ◌≤◌, ◌<◌, ◌==◌, ℕ, [], ◌∷◌, length, Err, All, IfOk, IfSome, IfNone};
 ghost use Rattle.std.specs.List.{position_or_len};
-ghost use Rattle.nb_lines.specs.Lines.{ReadsLines, Reads, AddsLine, lines, numbered, without_last_feed, first_among, said, is_blank, line_number};
+ghost use Rattle.nb_lines.specs.declared.script.BadReason.{BadReason as Reason};
+ghost use Rattle.nb_lines.specs.declared.script.LineFail.TheVariants.{Bad};
+ghost use Rattle.nb_lines.specs.Lines.{ReadsLines, Reads, IsBad, UnlessMemory, first_bad, AddsLine, lines, numbered, without_last_feed, first_among, said, is_blank, line_number};
 
 use crate::line::read_line;
 use crate::script::{BadReason, LineFail, OneFail, Scripts};
@@ -19,6 +21,8 @@ const LONGEST_LINE: usize = 65_536;
 #[tactic(auto, unfolding(crate::specs::Lines::first_bad, crate::specs::Lines::scripts))]
 pub fn read_lines(alloc: Global, bytes: &[u8]) -> Result<Scripts, LineFail>
     ensures lines { ReadsLines bytes.now result }
+    // The first bad line is answered, with its first reason, and nothing else.
+    ensures only { (line : ℕ) (reason : Reason) → IsBad (first_bad bytes.now) line reason → UnlessMemory result (result ≡ Err (Bad line reason)) }
     // Each line is that of one of eight editors.
     ensures editors { IfOk result (All (λ s. s.editor < 8)) }
 {
