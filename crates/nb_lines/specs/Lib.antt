@@ -1,2 +1,6 @@
-pub mod Form
+pub mod Forms
+pub mod Fields
+pub mod Reasons
+pub mod Says
+pub mod Reads
 pub mod Lines

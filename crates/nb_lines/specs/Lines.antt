@@ -1,16 +1,13 @@
--- The input: its lines, the first one that is not read, and the events of those before it.
-use Rattle.std.specs.Prelude.{◌≡◌, ℕ, ◌-◌, ◌==◌, Bool, true, false, not, ◌&&◌, ◌||◌, List, [], ◌∷◌, ◌++◌, length, map, filter, find, take, take_while, get_or, Option, Some, None, option_map, is_some, Result, Ok, Err, nat_lt, nat_le, if◌then◌else◌, ⊤}
+-- The input: its lines, the first one that is bad, and what the lines say where none is.
+use Rattle.std.specs.Prelude.{◌≡◌, ℕ, ◌-◌, ◌==◌, Bool, not, ◌||◌, List, [], ◌∷◌, ◌++◌, length, map, filter, take, get_or, Option, Some, None, option_map, Result, Ok, Err, if◌then◌else◌, ⊤}
 use Rattle.std.specs.List.{slice_split, enumerate_from, filter_map, list_all}
-use Rattle.nb_syntax.specs.declared.tree.Cell.{Cell}
-use Rattle.nb_syntax.specs.Plain.{is_plain}
-use Rattle.nb_sheet.specs.declared.edit.Edit.TheVariants.{AddCell}
 use Rattle.nb_log.specs.declared.event.Event.{Event}
-use Rattle.nb_log.specs.declared.event.Event.TheVariants as event
 use Rattle.nb_lines.specs.declared.script.ScriptLine.{ScriptLine}
-use Rattle.nb_lines.specs.declared.script.BadReason.TheVariants.{LineTooLong, TooManyLines}
+use Rattle.nb_lines.specs.declared.script.BadReason.{BadReason}
 use Rattle.nb_lines.specs.declared.script.LineFail.{LineFail}
-use Rattle.nb_lines.specs.declared.script.LineFail.TheVariants.{Bad, NotBuilt, Memory}
-use Rattle.nb_lines.specs.Form.{line_event}
+use Rattle.nb_lines.specs.declared.script.LineFail.TheVariants.{Bad, Memory}
+use Rattle.nb_lines.specs.Reasons.{Fault, Tells, first_of, as_plain, too_many_lines, too_long, line_fault}
+use Rattle.nb_lines.specs.Says.{script_of}
 
 -- a text, cut at its line feeds
 abbrev pub lines : List ℕ → List (List ℕ)
@@ -20,81 +17,80 @@ lines bytes = slice_split (λ b. b == 10) bytes
 abbrev pub without_last_feed : List ℕ → List ℕ
 without_last_feed bytes = if get_or bytes (length bytes - 1) 0 == 10 then take (length bytes - 1) bytes else bytes
 
-abbrev pub most_lines : ℕ
-most_lines = 65536
+-- the lines from this one on, which has the number n
+abbrev pub numbered : ℕ → List (List ℕ) → List (ℕ × List ℕ)
+numbered n ls = enumerate_from n ls
 
-abbrev pub longest_line : ℕ
-longest_line = 65536
+abbrev pub input_lines : List ℕ → List (ℕ × List ℕ)
+input_lines bytes = numbered 1 (lines (without_last_feed bytes))
 
 -- spaces, tabs and carriage returns alone
 abbrev pub is_blank : List ℕ → Bool
 is_blank line = list_all (λ b. (b == 32) || (b == 9) || (b == 13)) line
 
--- within the limits of the input, for a line with this number
-unfoldable pub is_within : ℕ × List ℕ → Bool
-is_within p = nat_le p.0 most_lines && nat_le (length p.1) longest_line
+-- a blank line has no fault of its own, but the limits of the input hold for it
+abbrev pub own_fault : List ℕ → Option Fault
+own_fault line = if is_blank line then None else line_fault line
 
--- a blank line within the limits is passed over, and counted
-abbrev pub is_passed : ℕ × List ℕ → Bool
-is_passed p = is_blank p.1 && is_within p
+-- why a line with this number is bad, if it is
+unfoldable pub fault_of : ℕ × List ℕ → Option Fault
+fault_of p = first_of (as_plain (too_many_lines p.0) ∷ as_plain (too_long p.1) ∷ own_fault p.1 ∷ [])
 
--- the lines that are not passed over, each with its number, where the first has the number n
-abbrev pub told : ℕ → List (List ℕ) → List (ℕ × List ℕ)
-told n ls = filter (λ p. not (is_passed p)) (enumerate_from n ls)
+-- a fault with its line's number
+abbrev pub placed_fault : ℕ × List ℕ → Option (ℕ × Fault)
+placed_fault p = option_map (λ f. (p.0, f)) (fault_of p)
 
--- past the limits of the input, or not of the form that is read
-unfoldable pub is_bad : ℕ × List ℕ → Bool
-is_bad p = not (is_within p) || not (is_some (line_event p.1))
+-- the first bad line, and its first fault
+abbrev pub first_among : List (ℕ × List ℕ) → Option (ℕ × Fault)
+first_among ls = first_of (map placed_fault ls)
 
--- why a line with this number is not read, if it isn't: first by the limits of the input
-unfoldable pub fault_of : ℕ × List ℕ → LineFail
-fault_of p =
-    if nat_lt most_lines p.0 then Bad p.0 TooManyLines
-    else if nat_lt longest_line (length p.1) then Bad p.0 LineTooLong
-    else NotBuilt p.0
+-- what a line says: nothing, where it is blank
+unfoldable pub line_script : List ℕ → Option ScriptLine
+line_script line = if is_blank line then None else script_of line
 
-abbrev pub fault_among : List (ℕ × List ℕ) → Option LineFail
-fault_among ls = option_map fault_of (find is_bad ls)
+abbrev pub said : List (ℕ × List ℕ) → List ScriptLine
+said ls = filter_map (λ p. line_script p.1) ls
 
-abbrev pub script : List ℕ → Option ScriptLine
-script line = option_map (λ e. record { editor = 0; event = e }) (line_event line)
+-- the first bad line of an input, with its first fault
+unfoldable pub first_bad : List ℕ → Option (ℕ × Fault)
+first_bad bytes = first_among (input_lines bytes)
 
-abbrev pub scripts_before : List (ℕ × List ℕ) → List ScriptLine
-scripts_before ls = filter_map (λ p. script p.1) (take_while (λ p. not (is_bad p)) ls)
-
--- the first line that is not read, and why
-unfoldable pub first_fault : List ℕ → Option LineFail
-first_fault bytes = fault_among (told 1 (lines (without_last_feed bytes)))
-
--- what the lines before it say
+-- what the lines of an input say, in their order
 unfoldable pub scripts : List ℕ → List ScriptLine
-scripts bytes = scripts_before (told 1 (lines (without_last_feed bytes)))
+scripts bytes = said (input_lines bytes)
 
--- what is read is all that the lines say, or the first fault comes; memory may run out
-abbrev pub Reads : Option LineFail → List ScriptLine → Result (List ScriptLine) LineFail → Type 0
-Reads fault said (Ok s) = (fault ≡ None) × (s ≡ said)
-Reads fault said (Err (Bad line reason)) = fault ≡ Some (Bad line reason)
-Reads fault said (Err (NotBuilt line)) = fault ≡ Some (NotBuilt line)
-Reads fault said (Err Memory) = ⊤
+-- this line is the first bad one, for this reason
+abbrev pub IsBad : Option (ℕ × Fault) → ℕ → BadReason → Type 0
+IsBad bad line reason = (f : Fault) × (bad ≡ Some (line, f)) × Tells f reason
+
+-- what is read is all that the lines say, where none is bad; else the first bad line comes, with its first reason; memory may run out
+abbrev pub Reads : Option (ℕ × Fault) → List ScriptLine → Result (List ScriptLine) LineFail → Type 0
+Reads bad all (Ok s) = (bad ≡ None) × (s ≡ all)
+Reads bad all (Err (Bad line reason)) = IsBad bad line reason
+Reads bad all (Err Memory) = ⊤
 
 abbrev pub ReadsLines : List ℕ → Result (List ScriptLine) LineFail → Type 0
-ReadsLines bytes result = Reads (first_fault bytes) (scripts bytes) result
+ReadsLines bytes result = Reads (first_bad bytes) (scripts bytes) result
 
--- a line of editor 0 that adds an observed cell to module 0, which neither fetches, yields nor cleans up
-abbrev pub AddsCell : ScriptLine → Type 0
-AddsCell s = (s.editor ≡ 0) × ((cell : Cell) × (s.event ≡ event.Edit (AddCell 0 cell true)) × (is_plain cell ≡ true))
-
-abbrev pub AllAddCells : List ScriptLine → Type 0
-AllAddCells [] = ⊤
-AllAddCells (s ∷ ss) = AddsCell s × AllAddCells ss
+-- what holds of a call's answer, unless memory ran out
+abbrev pub UnlessMemory : {X : Type 0} → Result X LineFail → Type 0 → Type 0
+UnlessMemory (Err Memory) claim = ⊤
+UnlessMemory _ claim = claim
 
 -- each line's editor and event
 abbrev pub script_lines : List ScriptLine → List (ℕ × Event)
 script_lines = map (λ s. (s.editor, s.event))
 
+-- the numbers of the lines that aren't blank
+abbrev pub numbers : List (ℕ × List ℕ) → List ℕ
+numbers ls = map (λ p. p.0) (filter (λ p. not (is_blank p.1)) ls)
+
+-- the number of the line that is the script at this place, where the first is at 0
+unfoldable pub line_number : List ℕ → ℕ → ℕ
+line_number bytes place = get_or (numbers (input_lines bytes)) place 0
+
 -- what a line adds that has the number n
 abbrev pub AddsLine : ℕ → List ℕ → List ScriptLine → List ScriptLine → Result ⊤ LineFail → Type 0
-AddsLine n line old new (Ok _) = (fault_among (told n (line ∷ [])) ≡ None) × (new ≡ old ++ scripts_before (told n (line ∷ [])))
-AddsLine n line old new (Err (Bad k reason)) = fault_among (told n (line ∷ [])) ≡ Some (Bad k reason)
-AddsLine n line old new (Err (NotBuilt k)) = fault_among (told n (line ∷ [])) ≡ Some (NotBuilt k)
+AddsLine n line old new (Ok _) = (placed_fault (n, line) ≡ None) × (new ≡ old ++ said ((n, line) ∷ []))
+AddsLine n line old new (Err (Bad k reason)) = IsBad (placed_fault (n, line)) k reason
 AddsLine n line old new (Err Memory) = ⊤

@@ -1,9 +1,11 @@
-ghost use Rattle.std.specs.Prelude.{◌≡◌, ◌≤◌, ◌<◌, ◌==◌, [], ◌∷◌, length, IfOk, IfSome, IfNone};
+ghost use Rattle.std.specs.Prelude.{◌≡◌, ◌≤◌, ◌<◌, ◌==◌, ℕ, [], ◌∷◌, length, Err, All, IfOk, IfSome, IfNone};
 ghost use Rattle.std.specs.List.{position_or_len};
-ghost use Rattle.nb_lines.specs.Lines.{ReadsLines, Reads, AllAddCells, AddsLine, lines, without_last_feed, fault_among, told, scripts_before, is_blank};
+ghost use Rattle.nb_lines.specs.declared.script.BadReason.{BadReason as Reason};
+ghost use Rattle.nb_lines.specs.declared.script.LineFail.TheVariants.{Bad};
+ghost use Rattle.nb_lines.specs.Lines.{ReadsLines, Reads, IsBad, UnlessMemory, first_bad, AddsLine, lines, numbered, without_last_feed, first_among, said, is_blank, line_number};
 
-use crate::form::event_of_line;
-use crate::script::{BadReason, LineFail, ScriptLine, Scripts};
+use crate::line::read_line;
+use crate::script::{BadReason, LineFail, OneFail, Scripts};
 use nb_value::Items;
 use std::alloc::Global;
 
@@ -13,14 +15,44 @@ const MOST_LINES: u32 = 65_536;
 /// The most bytes that a line may have, without its line feed, whatever it says.
 const LONGEST_LINE: usize = 65_536;
 
-/// What the lines of an input say, or the first one that is not read, and why.
+/// What the lines of an input say, or the first one that is bad, and its first reason.
 ///
 /// A blank line is passed over and counted. Linear in the input; a fault is answered without reading on.
+#[tactic(auto, unfolding(crate::specs::Lines::first_bad, crate::specs::Lines::scripts))]
 pub fn read_lines(alloc: Global, bytes: &[u8]) -> Result<Scripts, LineFail>
     ensures lines { ReadsLines bytes.now result }
-    ensures cells { IfOk result AllAddCells }
+    // The first bad line is answered, with its first reason, and nothing else.
+    ensures only { (line : ℕ) (reason : Reason) → IsBad (first_bad bytes.now) line reason → UnlessMemory result (result ≡ Err (Bad line reason)) }
+    // Each line is that of one of eight editors.
+    ensures editors { IfOk result (All (λ s. s.editor < 8)) }
 {
     read_all(alloc, without_last_feed(bytes))
+}
+
+/// The number of the line that is the script at this place, where the first script is at 0; 0 where there are fewer.
+///
+/// It takes no memory, and time linear in the input.
+#[tactic(auto, unfolding(crate::specs::Lines::line_number))]
+pub fn line_number(bytes: &[u8], place: usize) -> usize
+    ensures { result ≡ line_number bytes.now place }
+{
+    let mut rest = without_last_feed(bytes);
+    let mut left = place;
+    let mut number: usize = 1;
+    'lines: loop {
+        let (line, behind) = cut_line(rest);
+        if !is_blank(line) {
+            if left == 0 {
+                return number;
+            }
+            left -= 1;
+        }
+        match behind {
+            Some(more) => rest = more,
+            None => return 0,
+        }
+        number += 1;
+    }
 }
 
 /// The input without a line feed at its very end.
@@ -34,7 +66,7 @@ fn without_last_feed(bytes: &[u8]) -> &[u8]
 }
 
 fn read_all(alloc: Global, bytes: &[u8]) -> Result<Scripts, LineFail>
-    ensures { Reads (fault_among (told 1 (lines bytes.now))) (scripts_before (told 1 (lines bytes.now))) result }
+    ensures { Reads (first_among (numbered 1 (lines bytes.now))) (said (numbered 1 (lines bytes.now))) result }
 {
     let mut found = Items::new(alloc);
     let mut rest = bytes;
@@ -96,12 +128,13 @@ fn add_line(alloc: Global, found: &mut Scripts, number: u32, line: &[u8]) -> Res
     if is_blank(line) {
         return Ok(());
     }
-    match event_of_line(alloc, line)? {
-        Some(event) => {
-            found.push(ScriptLine { editor: 0, event })?;
-            Ok(())
-        }
-        None => Err(LineFail::NotBuilt(number)),
+    match read_line(alloc, line) {
+        Ok(script) => Ok(found.push(script)?),
+        Err(OneFail::Bad(reason)) => Err(LineFail::Bad {
+            line: number,
+            reason,
+        }),
+        Err(OneFail::Memory) => Err(LineFail::Memory),
     }
 }
 

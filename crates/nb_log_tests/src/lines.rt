@@ -1,153 +1,269 @@
-//! What is read, and where the first line is that is not.
-use nb_lines::{LineFail, Scripts, read_lines};
-use nb_log::Event;
-use nb_sheet::Edit;
-use nb_syntax::print;
-use nb_value::Text;
+//! What is read of lines, and which line is the first bad one, for which reason.
+use nb_lines::{BadReason, LineFail, ScriptLine, Scripts, line_number, read_lines};
+use nb_log::{Entry, Refusal, push_entries};
+use nb_parser::ParseError;
+use nb_value::Bytes;
 use std::alloc::Global;
 use std::mem::drop;
 use std::test::Fail;
 
 const GOOD: &str = "{\"do\":\"cell\",\"module\":0,\"cell\":\"x = 1 + 2\"}";
 
-// Texts of a cell, in lines that are else of the form that is read, with whether they are read.
-const CELLS: [(&str, bool); 18] = [
-    ("x=1-y+$_0", true),
-    ("\\n _x\\t=\\r lets ", true),
-    ("x = )", false),
-    ("foo(1)", false),
-    ("x == 1", true),
-    ("x = 007", false),
-    ("1x = 1", false),
-    ("x = -1", true),
-    ("x = (1)", true),
-    ("x = 1 +", false),
-    ("let = 1", false),
-    ("{ return 1; }", true),
-    ("x = { let a = [1]; for (let b of a) { a = a + b; } }", true),
-    ("x = fetch(1)", false),
-    ("x = { yield 1; }", false),
-    ("x = { if (a) { cleanup 1; } }", false),
-    ("x = \\u00e9", false),
-    ("x = 9223372036854775808", false),
+// Lines that are read, with their editor and the object that they are written as.
+const READ: [(&str, &str); 20] = [
+    ("{\"do\":\"module\"}", "0,{\"do\":\"module\"}"),
+    (
+        "{\"do\":\"variable\",\"module\":4294967295}",
+        "0,{\"do\":\"variable\",\"module\":4294967295,\"observed\":true}",
+    ),
+    (
+        " {\"observed\":false,\"editor\":7,\"module\":0,\"do\":\"variable\"}\r",
+        "7,{\"do\":\"variable\",\"module\":0,\"observed\":false}",
+    ),
+    (
+        "{\"do\":\"cell\",\"module\":1,\"cell\":\"x=1+2\",\"observed\":false}",
+        "0,{\"cell\":\"x = 1 + 2\",\"do\":\"cell\",\"module\":1,\"observed\":false}",
+    ),
+    (
+        "{\"do\":\"cell\",\"module\":0,\"cell\":\"\\n{ yield fetch(1); cleanup 1; }\\t\"}",
+        "0,{\"cell\":\"{ yield fetch(1); cleanup 1; }\",\"do\":\"cell\",\"module\":0,\"observed\":true}",
+    ),
+    (
+        "{\"do\":\"define\",\"variable\":7,\"cell\":\"1\",\"editor\":0}",
+        "0,{\"cell\":\"1\",\"do\":\"define\",\"variable\":7}",
+    ),
+    (
+        "{\"do\":\"import\",\"variable\":2,\"name\":\"len\",\"from\":0}",
+        "0,{\"alias\":\"len\",\"do\":\"import\",\"from\":0,\"name\":\"len\",\"variable\":2}",
+    ),
+    (
+        "{\"do\":\"import\",\"variable\":2,\"name\":\"a\",\"alias\":\"$_0\",\"from\":0}",
+        "0,{\"alias\":\"$_0\",\"do\":\"import\",\"from\":0,\"name\":\"a\",\"variable\":2}",
+    ),
+    (
+        "{\"do\":\"delete\",\"variable\":0}",
+        "0,{\"do\":\"delete\",\"variable\":0}",
+    ),
+    (
+        "{\"do\":\"redefine\",\"module\":0,\"cell\":\"x = 1\"}",
+        "0,{\"cell\":\"x = 1\",\"do\":\"redefine\",\"module\":0}",
+    ),
+    (
+        "{\"do\":\"derive\",\"module\":0,\"with\":[],\"source\":1}",
+        "0,{\"do\":\"derive\",\"module\":0,\"source\":1,\"with\":[]}",
+    ),
+    (
+        "{\"do\":\"derive\",\"module\":0,\"with\":[\"a\",{\"name\":\"b\"},{\"alias\":\"d\",\"name\":\"c\"}],\"source\":1}",
+        "0,{\"do\":\"derive\",\"module\":0,\"source\":1,\"with\":[{\"alias\":\"a\",\"name\":\"a\"},{\"alias\":\"b\",\"name\":\"b\"},{\"alias\":\"d\",\"name\":\"c\"}]}",
+    ),
+    ("{\"do\":\"frame\",\"editor\":3}", "3,{\"do\":\"frame\"}"),
+    ("{\"do\":\"rest\"}", "0,{\"do\":\"rest\"}"),
+    ("{\"do\":\"dispose\"}", "0,{\"do\":\"dispose\"}"),
+    (
+        "{\"do\":\"settle\",\"ticket\":1,\"value\":{\"a\":[null,-1]}}",
+        "0,{\"do\":\"settle\",\"ticket\":1,\"value\":{\"a\":[null,-1]}}",
+    ),
+    (
+        "{\"do\":\"settle\",\"ticket\":1,\"error\":\"\"}",
+        "0,{\"do\":\"settle\",\"error\":\"\",\"ticket\":1}",
+    ),
+    (
+        "{\"do\":\"settle\",\"key\":\"k\",\"value\":true}",
+        "0,{\"do\":\"settle\",\"key\":\"k\",\"value\":true}",
+    ),
+    (
+        "{\"do\":\"settle\",\"key\":\"\",\"error\":\"e\"}",
+        "0,{\"do\":\"settle\",\"error\":\"e\",\"key\":\"\"}",
+    ),
+    (
+        "{\"do\":\"frame\",\"do\":\"cell\",\"module\":1,\"cell\":\"x = )\",\"module\":0,\"cell\":\"1\"}",
+        "0,{\"cell\":\"1\",\"do\":\"cell\",\"module\":0,\"observed\":true}",
+    ),
 ];
 
-// Inputs, with the number of the first line that is not read, or 0.
-const INPUTS: [(&str, u32); 12] = [
+// Lines of one or two faults, with the number of the first reason and the key that it names.
+const FAULTS: [(&str, u8, &str); 20] = [
+    ("{\"do\":\"fra", 3, ""),
+    ("{\"do\":\"frame\"} {}", 3, ""),
+    ("{\"do\":1.5e999,\"x\":0}", 3, ""),
+    ("[\"do\"]", 4, ""),
+    ("{\"x\":0}", 7, "do"),
+    ("{\"do\":[],\"x\":0}", 8, "do"),
+    ("{\"do\":\"Frame\",\"x\":0}", 5, ""),
+    ("{\"do\":\"frame\",\"x\":0,\"module\":0,\"editor\":8}", 6, "module"),
+    ("{\"do\":\"cell\",\"\":0,\"a\":0}", 6, ""),
+    ("{\"do\":\"cell\",\"editor\":8}", 8, "editor"),
+    ("{\"do\":\"frame\",\"editor\":-0}", 8, "editor"),
+    ("{\"do\":\"cell\",\"cell\":\")\"}", 7, "module"),
+    ("{\"do\":\"cell\",\"module\":0.0,\"observed\":0}", 8, "module"),
+    ("{\"do\":\"cell\",\"module\":4294967296}", 8, "module"),
+    ("{\"do\":\"cell\",\"module\":0,\"observed\":0}", 7, "cell"),
+    ("{\"do\":\"cell\",\"module\":0,\"cell\":1,\"observed\":0}", 8, "cell"),
+    ("{\"do\":\"cell\",\"module\":0,\"cell\":\")\",\"observed\":0}", 8, "observed"),
+    ("{\"do\":\"redefine\",\"module\":0,\"cell\":\"1\"}", 9, ""),
+    ("{\"do\":\"redefine\",\"module\":0,\"cell\":\"1 +\"}", 10, ""),
+    ("{\"do\":\"import\",\"variable\":1,\"name\":\"if\"}", 8, "name"),
+];
+
+// The same of imports, derives and settlements.
+const MORE_FAULTS: [(&str, u8, &str); 20] = [
+    ("{\"do\":\"import\",\"variable\":1,\"name\":\"a\",\"alias\":\"1\"}", 8, "alias"),
+    ("{\"do\":\"import\",\"variable\":1,\"name\":\"a\",\"alias\":null}", 8, "alias"),
+    ("{\"do\":\"import\",\"variable\":1,\"name\":\"a\",\"alias\":\"b\"}", 7, "from"),
+    ("{\"do\":\"derive\",\"module\":0,\"source\":-1}", 7, "with"),
+    ("{\"do\":\"derive\",\"module\":0,\"with\":{}}", 8, "with"),
+    ("{\"do\":\"derive\",\"module\":0,\"with\":[\"a\",\"b c\"]}", 8, "with"),
+    ("{\"do\":\"derive\",\"module\":0,\"with\":[{\"alias\":\"a\"}]}", 8, "with"),
+    ("{\"do\":\"derive\",\"module\":0,\"with\":[{\"name\":\"a\",\"as\":\"b\"}]}", 8, "with"),
+    ("{\"do\":\"derive\",\"module\":0,\"with\":[{\"name\":\"a\",\"alias\":0}]}", 8, "with"),
+    ("{\"do\":\"derive\",\"module\":0,\"with\":[\"a\"]}", 7, "source"),
+    ("{\"do\":\"settle\",\"value\":0,\"error\":0}", 7, "ticket"),
+    ("{\"do\":\"settle\",\"ticket\":-1,\"key\":0}", 8, "key"),
+    ("{\"do\":\"settle\",\"ticket\":-1}", 7, "value"),
+    ("{\"do\":\"settle\",\"key\":0,\"value\":0.5,\"error\":0}", 8, "error"),
+    ("{\"do\":\"settle\",\"ticket\":-1,\"value\":0.5}", 8, "ticket"),
+    ("{\"do\":\"settle\",\"key\":0,\"error\":0}", 8, "key"),
+    ("{\"do\":\"settle\",\"key\":\"\",\"error\":0}", 8, "error"),
+    ("{\"do\":\"settle\",\"key\":\"\",\"value\":0.5}", 8, "value"),
+    ("{\"do\":\"settle\",\"key\":\"\",\"value\":9223372036854775808}", 8, "value"),
+    ("{\"do\":\"settle\",\"ticket\":0,\"value\":0,\"with\":[]}", 6, "with"),
+];
+
+// Inputs, with the number of the first bad line, or 0.
+const INPUTS: [(&str, u32); 8] = [
     ("", 0),
     ("\n", 0),
-    (
-        "\n \t\r\n{\"do\":\"cell\",\"module\":0,\"cell\":\"x = 1\"}\r\n",
-        0,
-    ),
+    ("\n \t\r\n{\"do\":\"rest\"}\r\n", 0),
     ("\n \t\r\nx", 3),
-    ("{\"do\":\"cell\",\"module\":0.0,\"cell\":\"x = 1\"}", 1),
-    ("{\"do\":\"cell\",\"module\":-0,\"cell\":\"x = 1\"}", 1),
-    (
-        "{\"do\":\"cell\",\"module\":0,\"cell\":\"x = 1\",\"on\":true}",
-        1,
-    ),
-    ("{\"do\":\"cell\",\"module\":0}", 1),
-    ("[]", 1),
-    ("{\"do\":\"frame\",\"module\":0,\"cell\":\"x = 1\"}", 1),
-    (
-        "{\"cell\":\"\",\"do\":\"cell\",\"module\":0,\"cell\":\"x = 1\"}",
-        0,
-    ),
-    (
-        "{\"do\":\"cell\",\"module\":0,\"cell\":\"x = 1\",\"module\":1}",
-        1,
-    ),
+    ("{\"do\":\"rest\"}\n\nx\ny", 3),
+    ("{\"do\":\"rest\"}\n{}\n[]", 2),
+    ("x\n{\"do\":\"rest\"}", 1),
+    ("{\"do\":\"rest\"}{\"do\":\"rest\"}", 1),
 ];
 
-// The number of the first line that is not read, or 0.
+// The number of a reason, and the key that it names.
+fn parts(reason: &BadReason) -> (u8, &str) {
+    match reason {
+        BadReason::LineTooLong => (1, ""),
+        BadReason::TooManyLines => (2, ""),
+        BadReason::NotJson => (3, ""),
+        BadReason::NotObject => (4, ""),
+        BadReason::UnknownDo => (5, ""),
+        BadReason::UnknownField(key) => (6, key.as_str()),
+        BadReason::MissingField(key) => (7, key.as_str()),
+        BadReason::WrongField(key) => (8, key.as_str()),
+        BadReason::Unnamed => (9, ""),
+        BadReason::BadCell(_) => (10, ""),
+    }
+}
+
+// Whether the first bad line of an input is this one, for this reason.
+fn is_refused(alloc: Global, input: &[u8], at: u32, number: u8, key: &str) -> bool {
+    match read_lines(alloc, input) {
+        Err(LineFail::Bad { line, reason }) => {
+            let (found, named) = parts(&reason);
+            line == at && found == number && named == key
+        }
+        _ => false,
+    }
+}
+
+// The number of the first bad line, or 0.
 fn first_bad(alloc: Global, input: &[u8]) -> Result<u32, Fail> {
     match read_lines(alloc, input) {
         Ok(_) => Ok(0),
-        Err(LineFail::NotBuilt(number)) => Ok(number),
         Err(LineFail::Bad { line, .. }) => Ok(line),
         Err(LineFail::Memory) => Err("memory".into()),
     }
 }
 
-// Whether a line with this text at `cell` is read.
-fn reads_cell(alloc: Global, cell: &str) -> Result<bool, Fail> {
-    let line = format!(in alloc; "{{\"do\":\"cell\",\"module\":0,\"cell\":\"{cell}\"}}")?;
-    let bad = first_bad(alloc, line.as_bytes());
-    drop(line);
-    Ok(bad? == 0)
-}
-
-// Whether a good line is read with spaces behind it, as wide as this.
-fn reads_padded(alloc: Global, width: usize) -> Result<bool, Fail> {
-    let mut line = Vec::from_slice(alloc, GOOD.as_bytes())?;
-    line.resize(width, 32)?;
-    let bad = first_bad(alloc, &line);
-    drop(line);
-    Ok(bad? == 0)
-}
-
 #[test]
-fn finds_the_first_line_that_is_not_read(rt: HostRuntime) -> Result<(), Fail> {
+fn tells_the_first_reason(rt: HostRuntime) -> Result<(), Fail> {
     let alloc = rt.alloc();
-    for (cell, is_read) in &CELLS {
-        assert_eq!(rt; reads_cell(alloc, cell)?, *is_read, "{cell}");
+    for (line, number, key) in &FAULTS {
+        assert!(rt; is_refused(alloc, line.as_bytes(), 1, *number, key), "{line}");
+    }
+    for (line, number, key) in &MORE_FAULTS {
+        assert!(rt; is_refused(alloc, line.as_bytes(), 1, *number, key), "{line}");
     }
     for (input, bad) in &INPUTS {
         assert_eq!(rt; first_bad(alloc, input.as_bytes())?, *bad, "{input}");
     }
-    // It would be of the form if it were UTF-8: the last `do` counts.
-    let not_utf8 = b"{\"do\":\"\xff\",\"do\":\"cell\",\"module\":0,\"cell\":\"x = 1\"}";
-    assert_eq!(rt; first_bad(alloc, not_utf8)?, 1);
-    assert_eq!(rt;
-        [reads_padded(alloc, 65_536)?, reads_padded(alloc, 65_537)?],
-        [true, false]
-    );
+    let not_utf8 = b"{\"do\":\"\xff\",\"do\":\"rest\"}";
+    assert!(rt; is_refused(alloc, not_utf8, 1, 3, ""));
     Ok(())
 }
 
-// The text of the cell that an edit adds to module 0, observed.
-fn text_of_edit(alloc: Global, edit: &Edit) -> Result<Text, Fail> {
-    match edit {
-        Edit::AddCell {
-            module: within,
-            cell,
-            observed,
-        } => {
-            if *within == 0 && *observed {
-                Ok(print(alloc, cell)?)
-            } else {
-                Err("another place".into())
-            }
-        }
-        _ => Err("another edit".into()),
-    }
+// Whether a good line with spaces behind it, as wide as this, is refused as too long.
+fn is_too_long(alloc: Global, width: usize) -> Result<bool, Fail> {
+    let mut line = Vec::from_slice(alloc, GOOD.as_bytes())?;
+    line.resize(width, 32)?;
+    let refused = is_refused(alloc, &line, 1, 1, "");
+    drop(line);
+    Ok(refused)
 }
 
-// The same of the one line, which is editor 0's.
-fn text_of(alloc: Global, scripts: &Scripts) -> Result<Text, Fail> {
-    let [line] = scripts.as_slice() else {
-        return Err("another number of lines".into());
-    };
-    if line.editor != 0 {
-        return Err("another editor".into());
-    }
-    match &line.event {
-        Event::Edit(edit) => text_of_edit(alloc, edit),
-        _ => Err("another event".into()),
-    }
+// Whether so many empty lines are refused at the line past the most.
+fn are_too_many(alloc: Global, count: usize) -> Result<bool, Fail> {
+    let lines = vec![in alloc; b'\n'; count]?;
+    let refused = is_refused(alloc, &lines, 65_537, 2, "");
+    drop(lines);
+    Ok(refused)
 }
 
 #[test]
-fn reads_the_cell(rt: HostRuntime) -> Result<(), Fail> {
+fn keeps_the_limits_of_lines(rt: HostRuntime) -> Result<(), Fail> {
     let alloc = rt.alloc();
-    match read_lines(alloc, GOOD.as_bytes()) {
-        Ok(scripts) => {
-            let text = text_of(alloc, &scripts);
-            drop(scripts);
-            assert_eq!(rt; text?.as_str(), "x = 1 + 2");
-            Ok(())
-        }
-        Err(_) => Err("refused".into()),
+    assert_eq!(rt; [is_too_long(alloc, 65_536)?, is_too_long(alloc, 65_537)?], [false, true]);
+    assert_eq!(rt; [are_too_many(alloc, 65_536)?, are_too_many(alloc, 65_537)?], [false, true]);
+    Ok(())
+}
+
+#[test]
+fn counts_lines_that_say_something(rt: HostRuntime) -> Result<(), Fail> {
+    let input = b"\n{}\n \t\n\n[]\r\nx";
+    let numbers = [
+        line_number(input, 0),
+        line_number(input, 1),
+        line_number(input, 2),
+        line_number(input, 3),
+    ];
+    assert_eq!(rt; numbers, [2, 5, 6, 0]);
+    Ok(())
+}
+
+// The entry of a line, were it refused.
+fn refused(line: ScriptLine) -> Entry {
+    Entry::Refused {
+        editor: line.editor,
+        reason: Refusal::Disposed,
+        event: line.event,
     }
+}
+
+// What the one line that was read is written as.
+fn written(alloc: Global, scripts: Scripts) -> Result<Bytes, Fail> {
+    let mut text = Bytes::new(alloc);
+    let mut lines = scripts.into_vec();
+    let Some(line) = lines.pop() else {
+        return Err("no line".into());
+    };
+    let pushed = push_entries(alloc, &mut text, &[refused(line)]);
+    pushed?;
+    Ok(text)
+}
+
+#[test]
+fn reads_each_form(rt: HostRuntime) -> Result<(), Fail> {
+    let alloc = rt.alloc();
+    for (line, object) in &READ {
+        let Ok(scripts) = read_lines(alloc, line.as_bytes()) else {
+            return Err("refused".into());
+        };
+        let text = written(alloc, scripts)?;
+        let (editor, rest) = object.split_at(1);
+        let wanted = format!(in alloc; "[\"refused\",{editor},20,\"Disposed\"{rest}]\n")?;
+        assert_eq!(rt; text.as_slice(), wanted.as_bytes(), "{line}");
+    }
+    Ok(())
 }

@@ -9,7 +9,8 @@ use Rattle.nb_history.specs.Headline.{IsHistoryOf}
 use Rattle.nb_history.proofs.HistoryThere.{history_alone}
 use Rattle.nb_core.proofs.Runs.{IsRun, run_goes_on, run_ends}
 use Rattle.nb_lines.specs.declared.script.ScriptLine.{ScriptLine}
-use Rattle.nb_lines.specs.Lines.{script_lines, AddsCell, AllAddCells}
+use Rattle.nb_lines.specs.Lines.{script_lines}
+use Rattle.nb_main.specs.Built.{AddsCell, AllAddCells}
 use Rattle.nb_main.specs.Run.{TakesLine}
 
 -- of the lines, those that are left are still to come, and all that is promised holds so far

@@ -6,7 +6,7 @@ use Rattle.nb_io.specs.Streams.{Tells, AppendsFront}
 use Rattle.nb_main.specs.declared.status.Status.{Status}
 use Rattle.nb_main.specs.declared.status.Status.TheVariants.{Ok, Memory, Usage, BadInput, NotBuilt, ReadFault, WriteFault, TooLong}
 use Rattle.nb_main.specs.Command.{command}
-use Rattle.nb_main.specs.Outcome.{refusal, IsOutcome}
+use Rattle.nb_main.specs.Outcome.{IsRefusal, IsReadable, IsOutcome}
 
 -- What an object told before a call and after it, and its counts of faults then.
 pub record Seen : Type 0 where
@@ -39,13 +39,13 @@ pub record HasNoInput (call : Call) : Type 0 where
 -- The bytes of the input are refused, for this reason.
 pub record IsRefused (call : Call) (status : Status) : Type 0 where
   pub words : IsSome (command call.words)
-  pub reason : (bytes : List ℕ) → Tells call.input.old bytes → refusal bytes ≡ Some status
+  pub reason : (bytes : List ℕ) → Tells call.input.old bytes → IsRefusal bytes status
   pub nothing : Keeps call.out.old call.out.new
 
 -- The input was read to its end, and all of its outcome was written.
 pub record IsDone (call : Call) : Type 0 where
   pub words : IsSome (command call.words)
-  pub accepted : (bytes : List ℕ) → Tells call.input.old bytes → refusal bytes ≡ None
+  pub accepted : (bytes : List ℕ) → Tells call.input.old bytes → IsReadable bytes
   pub at_end : IsAtEnd call.input.new
   pub text : List ℕ
   pub outcome : (bytes : List ℕ) → Tells call.input.old bytes → IsOutcome bytes text
@@ -54,7 +54,7 @@ pub record IsDone (call : Call) : Type 0 where
 -- A write failed: a front of the outcome was written.
 pub record IsCutOff (call : Call) : Type 0 where
   pub words : IsSome (command call.words)
-  pub accepted : (bytes : List ℕ) → Tells call.input.old bytes → refusal bytes ≡ None
+  pub accepted : (bytes : List ℕ) → Tells call.input.old bytes → IsReadable bytes
   pub rose : Rose call.out.faults_old call.out.faults_new
   pub text : List ℕ
   pub outcome : (bytes : List ℕ) → Tells call.input.old bytes → IsOutcome bytes text
@@ -63,7 +63,7 @@ pub record IsCutOff (call : Call) : Type 0 where
 -- Memory ran out: a front of the outcome was written, and nothing where there is no outcome.
 pub record IsGivenUp (call : Call) : Type 0 where
   pub no_command : command call.words ≡ None → Keeps call.out.old call.out.new
-  pub refused : (reason : Status) (bytes : List ℕ) → Tells call.input.old bytes → refusal bytes ≡ Some reason → Keeps call.out.old call.out.new
+  pub refused : (reason : Status) (bytes : List ℕ) → Tells call.input.old bytes → IsRefusal bytes reason → Keeps call.out.old call.out.new
   pub front : (bytes text : List ℕ) → Tells call.input.old bytes → IsOutcome bytes text → AppendsFront call.out.old call.out.new text
 
 -- What a call's status says.

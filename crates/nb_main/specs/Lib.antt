@@ -1,4 +1,5 @@
 pub mod Command
+pub mod Built
 pub mod Outcome
 pub mod Answers
 pub mod Causes

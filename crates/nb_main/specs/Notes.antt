@@ -4,19 +4,81 @@ use Rattle.std.specs.Io.KnownBytes.{Appends}
 use Rattle.nb_io.specs.Causes.{Rose}
 use Rattle.nb_io.specs.Streams.{AppendsFront}
 use Rattle.nb_lines.specs.declared.script.BadReason.{BadReason}
-use Rattle.nb_lines.specs.declared.script.BadReason.TheVariants.{LineTooLong, TooManyLines}
+use Rattle.nb_lines.specs.declared.script.BadReason.TheVariants as reason
+use Rattle.nb_lexer.specs.declared.fault.LexError.{LexError}
+use Rattle.nb_lexer.specs.declared.fault.LexError.TheVariants as lex
+use Rattle.nb_parser.specs.declared.error.ParseError.{ParseError}
+use Rattle.nb_parser.specs.declared.error.ParseError.TheVariants as parse
 use Rattle.nb_main.specs.declared.status.Status.{Status}
 use Rattle.nb_main.specs.declared.status.Status.TheVariants.{Ok, Memory, Usage, BadInput, NotBuilt, ReadFault, WriteFault, TooLong}
 
-abbrev pub reason_text : BadReason → List ℕ
-reason_text LineTooLong = codes "LineTooLong"
-reason_text TooManyLines = codes "TooManyLines"
+-- What the lexer finds fault with, and where.
+abbrev pub lex_word : LexError → List ℕ
+lex_word (lex.BadCharacter n) = codes "BadCharacter"
+lex_word (lex.OpenText n) = codes "OpenText"
+lex_word (lex.BadEscape n) = codes "BadEscape"
+lex_word (lex.TooWide n) = codes "TooWide"
+lex_word lex.Memory = codes "Memory"
+
+abbrev pub lex_place : LexError → ℕ
+lex_place (lex.BadCharacter n) = n
+lex_place (lex.OpenText n) = n
+lex_place (lex.BadEscape n) = n
+lex_place (lex.TooWide n) = n
+lex_place lex.Memory = 0
+
+-- The name of a cell's fault, its place, and the token where one is named. No bad line has want of memory as its fault.
+abbrev pub fault_word : ParseError → List ℕ
+fault_word (parse.Lex e) = lex_word e
+fault_word (parse.Unexpected n token) = codes "Unexpected"
+fault_word (parse.Ended n) = codes "Ended"
+fault_word (parse.TooDeep n) = codes "TooDeep"
+fault_word parse.Memory = codes "Memory"
+
+abbrev pub fault_place : ParseError → ℕ
+fault_place (parse.Lex e) = lex_place e
+fault_place (parse.Unexpected n token) = n
+fault_place (parse.Ended n) = n
+fault_place (parse.TooDeep n) = n
+fault_place parse.Memory = 0
+
+abbrev pub fault_token : ParseError → List ℕ
+fault_token (parse.Unexpected n token) = codes " " ++ token
+fault_token _ = []
+
+-- The word of a reason, with a space behind it where something follows.
+abbrev pub reason_word : BadReason → List ℕ
+reason_word reason.LineTooLong = codes "LineTooLong"
+reason_word reason.TooManyLines = codes "TooManyLines"
+reason_word reason.NotJson = codes "NotJson"
+reason_word reason.NotObject = codes "NotObject"
+reason_word reason.UnknownDo = codes "UnknownDo"
+reason_word (reason.UnknownField key) = codes "UnknownField "
+reason_word (reason.MissingField key) = codes "MissingField "
+reason_word (reason.WrongField key) = codes "WrongField "
+reason_word reason.Unnamed = codes "Unnamed"
+reason_word (reason.BadCell fault) = codes "BadCell "
+
+abbrev pub reason_key : BadReason → List ℕ
+reason_key (reason.UnknownField key) = key
+reason_key (reason.MissingField key) = key
+reason_key (reason.WrongField key) = key
+reason_key _ = []
+
+abbrev pub bad_cell_line : List ℕ → ParseError → List ℕ
+bad_cell_line line fault =
+    codes "notebook: line " ++ (line ++ (codes ": BadCell " ++ (fault_word fault ++ (codes " " ++ (decimal (fault_place fault) ++ (fault_token fault ++ codes "\n"))))))
+
+-- The text of a bad line.
+abbrev pub bad_line : ℕ → BadReason → List ℕ
+bad_line line (reason.BadCell fault) = bad_cell_line (decimal line) fault
+bad_line line r = codes "notebook: line " ++ (decimal line ++ (codes ": " ++ (reason_word r ++ (reason_key r ++ codes "\n"))))
 
 abbrev pub note : Status → List ℕ
 note Ok = []
 note Memory = codes "notebook: out of memory\n"
 note Usage = codes "notebook: usage: notebook run [FILE] | workers N [FILE] | make N SEED\n"
-note (BadInput line reason) = codes "notebook: line " ++ (decimal line ++ (codes ": " ++ (reason_text reason ++ codes "\n")))
+note (BadInput line r) = bad_line line r
 note (NotBuilt line) = codes "notebook: line " ++ decimal line ++ codes ": NotBuilt\n"
 note ReadFault = codes "notebook: read fault\n"
 note WriteFault = codes "notebook: write fault\n"
@@ -31,7 +93,7 @@ abbrev pub number : Status → ℕ
 number Ok = 0
 number Memory = 1
 number Usage = 2
-number (BadInput line reason) = 3
+number (BadInput line r) = 3
 number (NotBuilt line) = 3
 number ReadFault = 4
 number WriteFault = 5

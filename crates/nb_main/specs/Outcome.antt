@@ -1,7 +1,7 @@
 -- What the bytes of an input come to.
-use Rattle.std.specs.Prelude.{◌≡◌, ℕ, List, [], length, Option, None, Some, Result, nat_lt, if◌then◌else◌, option_map}
+use Rattle.std.specs.Prelude.{◌≡◌, ◌<◌, ◌≤◌, ◌⊎◌, ℕ, List, [], length, None, Some, Result}
 use Rattle.std.specs.declared.result.Result.TheVariants.{Ok, Err}
-use Rattle.nb_lines.specs.Lines.{first_fault, scripts, script_lines}
+use Rattle.nb_lines.specs.Lines.{first_bad, scripts, script_lines, IsBad}
 use Rattle.nb_lines.specs.declared.script.LineFail.{LineFail}
 use Rattle.nb_lines.specs.declared.script.LineFail.TheVariants as fail
 use Rattle.nb_log.specs.declared.entry.Entry.{Entry}
@@ -9,6 +9,7 @@ use Rattle.nb_history.specs.Headline.{IsHistoryOf}
 use Rattle.nb_history.specs.Print.{printing}
 use Rattle.nb_main.specs.declared.status.Status.{Status}
 use Rattle.nb_main.specs.declared.status.Status.TheVariants as status
+use Rattle.nb_main.specs.Built.{first_not_built}
 
 -- The most bytes that an input may have.
 abbrev pub limit : ℕ
@@ -16,12 +17,20 @@ limit = 4194304
 
 abbrev pub fault_status : LineFail → Status
 fault_status (fail.Bad line reason) = status.BadInput line reason
-fault_status (fail.NotBuilt line) = status.NotBuilt line
 fault_status fail.Memory = status.Memory
 
--- The first reason why the bytes of an input are refused, or none.
-unfoldable pub refusal : List ℕ → Option Status
-refusal bytes = if nat_lt limit (length bytes) then Some (status.TooLong limit) else option_map fault_status (first_fault bytes)
+-- The bytes of an input are refused with this status: they are too many; or else a line is bad; or else one isn't built.
+abbrev pub IsRefusal : List ℕ → Status → Type 0
+IsRefusal bytes (status.TooLong n) = (n ≡ limit) × (limit < length bytes)
+IsRefusal bytes (status.BadInput line reason) = (length bytes ≤ limit) × IsBad (first_bad bytes) line reason
+IsRefusal bytes (status.NotBuilt line) = (length bytes ≤ limit) × ((first_bad bytes ≡ None) × (first_not_built bytes ≡ Some line))
+IsRefusal bytes _ = ⊥
+
+-- The bytes of an input aren't refused.
+pub record IsReadable (bytes : List ℕ) : Type 0 where
+  pub fits : length bytes ≤ limit
+  pub good : first_bad bytes ≡ None
+  pub built : first_not_built bytes ≡ None
 
 -- The text is the printing of the history of the lines that the bytes are.
 pub record IsOutcome (bytes text : List ℕ) : Type 0 where
@@ -29,9 +38,7 @@ pub record IsOutcome (bytes text : List ℕ) : Type 0 where
   pub history : IsHistoryOf [] [] (script_lines (scripts bytes)) [] log
   pub printed : text ≡ printing [] log
 
--- An answer to bytes: their outcome, or their first fault. Memory may run out.
-abbrev pub IsAnswer : List ℕ → Result (List ℕ) LineFail → Type 0
-IsAnswer bytes (Ok text) = (first_fault bytes ≡ None) × IsOutcome bytes text
-IsAnswer bytes (Err fail.Memory) = Unit {0}
-IsAnswer bytes (Err (fail.NotBuilt line)) = first_fault bytes ≡ Some (fail.NotBuilt line)
-IsAnswer bytes (Err (fail.Bad line reason)) = first_fault bytes ≡ Some (fail.Bad line reason)
+-- An answer to bytes: their outcome, or why they are refused. Memory may run out.
+abbrev pub IsAnswer : List ℕ → Result (List ℕ) Status → Type 0
+IsAnswer bytes (Ok text) = IsReadable bytes × IsOutcome bytes text
+IsAnswer bytes (Err s) = (s ≡ status.Memory) ⊎ IsRefusal bytes s

@@ -1,17 +1,13 @@
 ghost use Rattle.std.specs.Prelude.{◌≡◌};
-ghost use Rattle.nb_io.specs.Causes.{HasCause};
-ghost use Rattle.nb_io.specs.Streams.{WritesAll};
 ghost use Rattle.nb_main.specs.Answers.{Answers, seen};
 ghost use Rattle.nb_main.specs.Causes.{Causes};
-ghost use Rattle.nb_main.specs.Notes.{note, Notes, reason_text as reason_word};
+ghost use Rattle.nb_main.specs.Notes.{note, Notes};
 
 use crate::answer::{LIMIT, answer};
+use crate::notes::tell;
 use crate::status::Status;
 use crate::words::read_words;
-use nb_io::{
-    Failed, Files, ReadFail, Sink, Source, Spawner, read_to_end, write_pieces, write_whole,
-};
-use nb_lines::{BadReason, LineFail};
+use nb_io::{Failed, Files, ReadFail, Sink, Source, Spawner, read_to_end, write_whole};
 use nb_value::Words;
 use std::alloc::Global;
 
@@ -44,7 +40,7 @@ pub fn notebook<S: Source, F: Files, P: Spawner, K: Sink, E: Sink>(
     ensures notes { Notes (note result) (E.written notes.old) (E.written notes.new) (E.faults notes.old) (E.faults notes.new) }
 {
     let status = run(alloc, words, input, out);
-    let _ = tell(notes, status);
+    let _ = tell(notes, &status);
     status
 }
 
@@ -53,8 +49,9 @@ pub fn without_words<E: Sink>(notes: &mut E) -> Status
     ensures status { result ≡ Status.Memory }
     ensures notes { Notes (note result) (E.written notes.old) (E.written notes.new) (E.faults notes.old) (E.faults notes.new) }
 {
-    let _ = tell(notes, Status::Memory);
-    Status::Memory
+    let status = Status::Memory;
+    let _ = tell(notes, &status);
+    status
 }
 
 #[tactic(auto, using(crate::proofs::OutcomeLemmas::refusals))]
@@ -76,53 +73,10 @@ fn run<S: Source, K: Sink>(alloc: Global, words: &Words, input: &mut S, out: &mu
     };
     let text = match answer(alloc, bytes.as_slice()) {
         Ok(text) => text,
-        Err(LineFail::Bad { line, reason }) => return Status::BadInput(line, reason),
-        Err(LineFail::NotBuilt(line)) => return Status::NotBuilt(line),
-        Err(LineFail::Memory) => return Status::Memory,
+        Err(status) => return status,
     };
     match write_whole(out, text.as_slice()) {
         Ok(()) => Status::Ok,
         Err(Failed) => Status::WriteFault,
-    }
-}
-
-/// Writes the text of a status. It takes no memory.
-fn tell<E: Sink>(notes: &mut E, status: Status) -> Result<(), Failed>
-    ensures writes { WritesAll (note status) (E.written notes.old) (E.written notes.new) result }
-    ensures cause { HasCause (E.faults notes.old) (E.faults notes.new) result }
-{
-    let mut digits = itoa::Buffer::new();
-    match status {
-        Status::Ok => Ok(()),
-        Status::Memory => write_whole(notes, b"notebook: out of memory\n"),
-        Status::Usage => write_whole(
-            notes,
-            b"notebook: usage: notebook run [FILE] | workers N [FILE] | make N SEED\n",
-        ),
-        Status::BadInput(line, reason) => {
-            let line = digits.format(line).as_bytes();
-            let reason = reason_text(reason);
-            write_pieces(notes, &[b"notebook: line ", line, b": ", reason, b"\n"])
-        }
-        Status::NotBuilt(line) => {
-            let line = digits.format(line).as_bytes();
-            write_pieces(notes, &[b"notebook: line ", line, b": NotBuilt\n"])
-        }
-        Status::ReadFault => write_whole(notes, b"notebook: read fault\n"),
-        Status::WriteFault => write_whole(notes, b"notebook: write fault\n"),
-        Status::TooLong(most) => {
-            let most = digits.format(most).as_bytes();
-            write_pieces(notes, &[b"notebook: more than ", most, b" bytes\n"])
-        }
-    }
-}
-
-/// The word of a reason.
-fn reason_text(reason: BadReason) -> &'static [u8]
-    ensures { result.now ≡ reason_word reason }
-{
-    match reason {
-        BadReason::LineTooLong => b"LineTooLong",
-        BadReason::TooManyLines => b"TooManyLines",
     }
 }

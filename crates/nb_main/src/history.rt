@@ -3,7 +3,8 @@ ghost use Rattle.nb_history.specs.Headline.{IsHistoryOf};
 ghost use Rattle.nb_history.specs.History.{IsClosedHistory, standing};
 ghost use Rattle.nb_history.specs.Log.{admit};
 ghost use Rattle.nb_core.specs.Core.{Gains};
-ghost use Rattle.nb_lines.specs.Lines.{script_lines, AddsCell, AllAddCells};
+ghost use Rattle.nb_lines.specs.Lines.{script_lines};
+ghost use Rattle.nb_main.specs.Built.{AddsCell, AllAddCells};
 ghost use Rattle.nb_main.specs.Run.{TakesLine};
 
 use nb_core::{Core, settle};

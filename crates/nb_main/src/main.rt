@@ -2,8 +2,10 @@
 #![tactic(auto)]
 
 mod answer;
+mod built;
 mod call;
 mod history;
+mod notes;
 mod status;
 mod words;
 

@@ -1,7 +1,8 @@
-use nb_lines::BadReason;
+use nb_lines::{BadReason, LineFail};
+use std::alloc::AllocError;
 
 /// How a call ended.
-#[derive(Clone, Copy, Debug, PartialEq, Eq)]
+#[derive(Debug, Drop)]
 pub enum Status {
     /// All was read, done and written.
     Ok,
@@ -9,10 +10,10 @@ pub enum Status {
     Memory,
     /// The words are no command.
     Usage,
-    /// The first line of the input that is refused, by its number from 1, and why.
+    /// The first line of the input that is bad, by its number from 1, and its first reason.
     BadInput(u32, BadReason),
-    /// The first line of a form that isn't built yet, by its number from 1.
-    NotBuilt(u32),
+    /// The first line that isn't built yet, by its number from 1.
+    NotBuilt(usize),
     /// A read of the input failed.
     ReadFault,
     /// A write failed.
@@ -39,5 +40,30 @@ impl Status {
             Status::WriteFault => 5,
             Status::TooLong(_) => 7,
         }
+    }
+}
+
+impl From<LineFail> for Status {
+    ghost use Rattle.std.specs.Prelude.{◌≡◌};
+    ghost use Rattle.nb_main.specs.Outcome.{fault_status};
+
+    ghost from_gives = { λ fail status. status ≡ fault_status fail };
+
+    fn from(fail: LineFail) -> Status {
+        match fail {
+            LineFail::Bad { line, reason } => Status::BadInput(line, reason),
+            LineFail::Memory => Status::Memory,
+        }
+    }
+}
+
+impl From<AllocError> for Status {
+    ghost use Rattle.std.specs.Prelude.{◌≡◌};
+    ghost use Rattle.nb_main.specs.declared.status.Status.TheVariants.{Memory};
+
+    ghost from_gives = { λ _ status. status ≡ Memory };
+
+    fn from(_refused: AllocError) -> Status {
+        Status::Memory
     }
 }

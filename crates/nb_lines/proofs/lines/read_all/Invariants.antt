@@ -1,11 +1,12 @@
 use Rattle.std.proofs.Common.{◌≡◌, ◌++◌, length}
-use Rattle.nb_lines.specs.Lines.{lines, told, fault_among, scripts_before}
+use Rattle.nb_lines.specs.Lines.{lines, numbered, first_among, said}
 use Rattle.nb_lines.proofs.lines.read_all.Given as goal
 
+-- what is left has the first fault of all, and says what is still to be found
 abbrev pub invariant-lines : goal.invariant-lines
 invariant-lines l = record {
-  bad : fault_among (told 1 (lines l.bytes)) ≡ fault_among (told l.number (lines l.rest));
-  before : scripts_before (told 1 (lines l.bytes)) ≡ l.found ++ scripts_before (told l.number (lines l.rest));
+  bad : first_among (numbered 1 (lines l.bytes)) ≡ first_among (numbered l.number (lines l.rest));
+  so_far : said (numbered 1 (lines l.bytes)) ≡ l.found ++ said (numbered l.number (lines l.rest));
 }
 
 abbrev pub decreases-lines : goal.decreases-lines

@@ -1,21 +1,14 @@
--- The lines without a line feed at the very end, and that each adds a cell.
-use Rattle.std.proofs.Common.{◌≡◌, ◌∙◌, ap, sym, subst, Result, Ok, Err, IfOk, List, Option}
-use Rattle.nb_lines.specs.declared.script.ScriptLine.{ScriptLine}
-use Rattle.nb_lines.specs.declared.script.LineFail.{LineFail}
-use Rattle.nb_lines.specs.Lines.{Reads, AllAddCells, told, lines, without_last_feed, fault_among, scripts_before, first_fault, scripts}
-use Rattle.nb_lines.proofs.LineLemmas.{all_add_cells}
+-- That no other line is answered, and the editors of the lines.
+use Rattle.nb_lines.specs.Lines.{lines, numbered, first_among, said, first_bad}
+use Rattle.nb_lines.proofs.EditorLemmas.{editors_of}
+use Rattle.nb_lines.proofs.Once.{only_bad}
 use Rattle.nb_lines.proofs.lines.read_lines.Goals as goal
 
-all_of : (fault : Option LineFail) (said : List ScriptLine) (r : Result (List ScriptLine) LineFail) → AllAddCells said → Reads fault said r → IfOk r AllAddCells
-all_of fault said (Ok s) h reads = subst AllAddCells (sym reads.1) h
-all_of fault said (Err e) h reads = tt
+pub returns-clause-editors : goal.returns-clause-editors
+returns-clause-editors c =
+    editors_of (first_among (numbered 1 (lines c.without_last_feed.result.now))) (numbered 1 (lines c.without_last_feed.result.now)) c.read_all.result c.read_all.ensures
 
-here : (c : goal.After-read_all) → Reads (fault_among (told 1 (lines (without_last_feed c.args.bytes.now)))) (scripts_before (told 1 (lines (without_last_feed c.args.bytes.now)))) c.read_all.result
-here c = subst (λ bs. Reads (fault_among (told 1 (lines bs))) (scripts_before (told 1 (lines bs))) c.read_all.result) c.without_last_feed.ensures c.read_all.ensures
-
-pub returns-clause-lines : goal.returns-clause-lines
-unfolding first_fault scripts
-returns-clause-lines c = here c
-
-pub returns-clause-cells : goal.returns-clause-cells
-returns-clause-cells c = all_of _ _ c.read_all.result (all_add_cells (told 1 (lines (without_last_feed c.args.bytes.now)))) (here c)
+pub returns-clause-only : goal.returns-clause-only
+unfolding first_bad
+returns-clause-only c = rw c.without_last_feed.ensures at
+    (only_bad (first_among (numbered 1 (lines c.without_last_feed.result.now))) (said (numbered 1 (lines c.without_last_feed.result.now))) c.read_all.result c.read_all.ensures)

@@ -1,6 +1,7 @@
 use Rattle.std.proofs.Common.{◌≡◌, ◌<◌, ◌≤◌, ◌∙◌, ap, sym, subst, List, length, [], arith}
 use Rattle.nb_lines.specs.declared.script.ScriptLine.{ScriptLine}
-use Rattle.nb_lines.specs.Lines.{AddsCell, AllAddCells, script_lines}
+use Rattle.nb_lines.specs.Lines.{script_lines}
+use Rattle.nb_main.specs.Built.{AddsCell, AllAddCells}
 use Rattle.nb_history.specs.Headline.{IsHistoryOf}
 use Rattle.nb_main.proofs.RunLemmas.{begins_here, turn, running_ends, adds_at}
 use Rattle.nb_main.proofs.history.history.Goals as goal
