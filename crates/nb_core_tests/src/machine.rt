@@ -151,7 +151,8 @@ fn an_empty_machine_shows_nothing(rt: HostRuntime) -> Result<(), Fail> {
     Ok(())
 }
 
-const REFUSED: &str = "[\"refused\",0,4,\"TooManyVariables\",{\"cell\":\"x = 1\",\"do\":\"cell\",\"module\":0,\"observed\":true}]\n";
+const REFUSED: &str =
+    "[\"refused\",0,4,\"TooManyVariables\",{\"cell\":\"x = 1\",\"do\":\"cell\",\"module\":0,\"observed\":true}]\n";
 
 #[test]
 fn a_cell_too_many_is_refused(rt: HostRuntime) -> Result<(), Fail> {
