@@ -5,6 +5,7 @@ ghost use Rattle.nb_grammar.specs.Words.{called, product_sign, sum_sign};
 ghost use Rattle.nb_grammar.specs.Reading.{Gives, inside_of, rounds, expr, choice, or, or_part, and, and_part, compare, sum, product, operand, unary, postfix, step, primary, named, call, bracketed, items, pairs, pair, name, key};
 
 use crate::functions::function_of;
+use crate::keep::both;
 use crate::marks::{
     after_and, after_comma, after_or, close_curly, close_round, close_square, colon, comma, enter,
     fault_at, key, name,
@@ -49,7 +50,7 @@ fn or(alloc: Global, words: &[Word], room: u8) -> Result<(Expr, &[Word]), Stop>
     ensures shorter { IfOk result (λ x. length x.1.now ≤ length words.now) }
 {
     let (first, rest) = and(alloc, words, room)?;
-    let (more, rest) = or_parts(alloc, rest, room)?;
+    let (first, (more, rest)) = both(first, or_parts(alloc, rest, room))?;
     Ok((or_of(alloc, first, more)?, rest))
 }
 
@@ -75,7 +76,7 @@ fn and(alloc: Global, words: &[Word], room: u8) -> Result<(Expr, &[Word]), Stop>
     ensures shorter { IfOk result (λ x. length x.1.now ≤ length words.now) }
 {
     let (first, rest) = comparison(alloc, words, room)?;
-    let (more, rest) = and_parts(alloc, rest, room)?;
+    let (first, (more, rest)) = both(first, and_parts(alloc, rest, room))?;
     Ok((and_of(alloc, first, more)?, rest))
 }
 
@@ -104,7 +105,7 @@ fn comparison(alloc: Global, words: &[Word], room: u8) -> Result<(Expr, &[Word])
     let Some((sign, behind)) = compare_sign(rest) else {
         return Ok((left, rest));
     };
-    let (right, rest) = sum(alloc, behind, room)?;
+    let (left, (right, rest)) = both(left, sum(alloc, behind, room))?;
     Ok((compare_of(alloc, sign, left, right)?, rest))
 }
 
@@ -114,7 +115,7 @@ fn sum(alloc: Global, words: &[Word], room: u8) -> Result<(Expr, &[Word]), Stop>
     ensures shorter { IfOk result (λ x. length x.1.now ≤ length words.now) }
 {
     let (first, rest) = product(alloc, words, room)?;
-    let (more, rest) = summands(alloc, rest, room)?;
+    let (first, (more, rest)) = both(first, summands(alloc, rest, room))?;
     Ok((sum_of(alloc, first, more)?, rest))
 }
 
@@ -140,7 +141,7 @@ fn product(alloc: Global, words: &[Word], room: u8) -> Result<(Expr, &[Word]), S
     ensures shorter { IfOk result (λ x. length x.1.now ≤ length words.now) }
 {
     let (first, rest) = unary(alloc, words, room)?;
-    let (more, rest) = factors(alloc, rest, room)?;
+    let (first, (more, rest)) = both(first, factors(alloc, rest, room))?;
     Ok((product_of(alloc, first, more)?, rest))
 }
 
@@ -184,7 +185,7 @@ fn postfix(alloc: Global, words: &[Word], room: u8) -> Result<(Expr, &[Word]), S
     ensures shorter { IfOk result (λ x. length x.1.now ≤ length words.now) }
 {
     let (root, rest) = primary(alloc, words, room)?;
-    let (steps, rest) = path_steps(alloc, rest, room)?;
+    let (root, (steps, rest)) = both(root, path_steps(alloc, rest, room))?;
     Ok((path_of(alloc, root, steps)?, rest))
 }
 
@@ -220,7 +221,7 @@ fn step(alloc: Global, words: &[Word], room: u8) -> Result<(Option<PathStep>, &[
         }
         [Word::OpenSquare, rest @ ..] => {
             let (index, rest) = expr(alloc, rest, enter(words, room)?)?;
-            let rest = close_square(rest)?;
+            let (index, rest) = both(index, close_square(rest))?;
             Ok((Some(PathStep::At(index)), rest))
         }
         _ => Ok((None, words)),
@@ -260,8 +261,7 @@ pub fn bracketed(alloc: Global, words: &[Word], room: u8) -> Result<(Expr, &[Wor
         return Err(fault_at(words));
     };
     let (inner, rest) = expr(alloc, rest, enter(words, room)?)?;
-    let rest = close_round(rest)?;
-    Ok((inner, rest))
+    both(inner, close_round(rest))
 }
 
 /// What begins with a name, behind which the words stand: a call of a function, or the name itself.

@@ -1,9 +1,11 @@
 //! Blocks and statements, by recursive descent. `room` is the number of brackets that may still open.
 
-ghost use Rattle.std.specs.Prelude.{◌≡◌, ◌∷◌, [], ◌<◌, ◌≤◌, length, IfOk, IsSome, Some};
+ghost use Rattle.std.specs.Prelude.{◌≡◌, ◌∷◌, [], ◌<◌, ◌≤◌, length, IfOk, IsOkAnd, MatchResult, IsSome, Some, Err};
 ghost use Rattle.nb_grammar.specs.Reading.{Gives, inside_of, expr, rounds, block, ended, assignment, let_stmt, arm, else_if, otherwise, if_stmt, while_stmt, each_of, each, for_stmt, next_stmt, stmts};
+ghost use Rattle.nb_parser.specs.Effects.{effect_of};
 
 use crate::expressions::{bracketed, expr};
+use crate::keep::both;
 use crate::marks::{
     assign, close_curly, close_round, enter, fault_at, let_word, name, of_word, semicolon,
 };
@@ -52,35 +54,58 @@ fn next_stmt(alloc: Global, words: &[Word], room: u8) -> Result<(Option<Stmt>, &
     ensures falls { IfOk result (λ x. IsSome x.0 → length x.1.now < length words.now) }
 {
     match words {
-        [Word::Name(name), rest @ ..] => Ok(found(assignment(alloc, name, rest, room)?)),
-        [Word::Let, rest @ ..] => Ok(found(let_stmt(alloc, rest, room)?)),
-        [Word::If, rest @ ..] => Ok(found(if_stmt(alloc, rest, room)?)),
-        [Word::While, rest @ ..] => Ok(found(while_stmt(alloc, rest, room)?)),
-        [Word::For, rest @ ..] => Ok(found(for_stmt(alloc, rest, room)?)),
-        [Word::Yield, rest @ ..] => {
-            let (value, rest) = ended(alloc, rest, room)?;
-            Ok((Some(Stmt::Yield(value)), rest))
-        }
-        [Word::Return, rest @ ..] => {
-            let (value, rest) = ended(alloc, rest, room)?;
-            Ok((Some(Stmt::Return(value)), rest))
-        }
-        [Word::Throw, rest @ ..] => {
-            let (value, rest) = ended(alloc, rest, room)?;
-            Ok((Some(Stmt::Throw(value)), rest))
-        }
-        [Word::Cleanup, rest @ ..] => {
-            let (value, rest) = ended(alloc, rest, room)?;
-            Ok((Some(Stmt::Cleanup(value)), rest))
-        }
+        [Word::Name(name), rest @ ..] => found(assignment(alloc, name, rest, room)),
+        [Word::Let, rest @ ..] => found(let_stmt(alloc, rest, room)),
+        [Word::If, rest @ ..] => found(if_stmt(alloc, rest, room)),
+        [Word::While, rest @ ..] => found(while_stmt(alloc, rest, room)),
+        [Word::For, rest @ ..] => found(for_stmt(alloc, rest, room)),
+        [Word::Yield, rest @ ..] => found_effect(Effect::Yield, ended(alloc, rest, room)),
+        [Word::Return, rest @ ..] => found_effect(Effect::Return, ended(alloc, rest, room)),
+        [Word::Throw, rest @ ..] => found_effect(Effect::Throw, ended(alloc, rest, room)),
+        [Word::Cleanup, rest @ ..] => found_effect(Effect::Cleanup, ended(alloc, rest, room)),
         _ => Ok((None, words)),
     }
 }
 
-fn found(read: (Stmt, &[Word])) -> (Option<Stmt>, &[Word])
-    ensures { (result.0 ≡ Some read.entry.0) × (result.1.now ≡ read.entry.1.now) }
+fn found(read: Result<(Stmt, &[Word]), Stop>) -> Result<(Option<Stmt>, &[Word]), Stop>
+    ensures { MatchResult read.entry
+        (λ r. IsOkAnd result (λ x. (x.0 ≡ Some r.0) × (x.1.now ≡ r.1.now)))
+        (λ e. result ≡ Err e) }
 {
-    (Some(read.0), read.1)
+    let (stmt, rest) = read?;
+    Ok((Some(stmt), rest))
+}
+
+/// What a statement with a value does with it.
+#[derive(Clone, Copy)]
+enum Effect {
+    Yield,
+    Return,
+    Throw,
+    Cleanup,
+}
+
+fn found_effect(
+    effect: Effect,
+    read: Result<(Expr, &[Word]), Stop>,
+) -> Result<(Option<Stmt>, &[Word]), Stop>
+    ensures { MatchResult read.entry
+        (λ r. IsOkAnd result (λ x. (x.0 ≡ Some (effect_of effect r.0)) × (x.1.now ≡ r.1.now)))
+        (λ e. result ≡ Err e) }
+{
+    let (value, rest) = read?;
+    Ok((Some(effect_of(effect, value)), rest))
+}
+
+fn effect_of(effect: Effect, value: Expr) -> Stmt
+    ensures { result ≡ effect_of effect value }
+{
+    match effect {
+        Effect::Yield => Stmt::Yield(value),
+        Effect::Return => Stmt::Return(value),
+        Effect::Throw => Stmt::Throw(value),
+        Effect::Cleanup => Stmt::Cleanup(value),
+    }
 }
 
 /// The expression at the head of the words, with the `;` that ends it.
@@ -89,8 +114,7 @@ fn ended(alloc: Global, words: &[Word], room: u8) -> Result<(Expr, &[Word]), Sto
     ensures shorter { IfOk result (λ x. length x.1.now ≤ length words.now) }
 {
     let (value, rest) = expr(alloc, words, room)?;
-    let rest = semicolon(rest)?;
-    Ok((value, rest))
+    both(value, semicolon(rest))
 }
 
 /// An assignment, behind its name.
@@ -138,7 +162,7 @@ fn arm(alloc: Global, words: &[Word], room: u8) -> Result<(Arm, &[Word]), Stop>
     ensures shorter { IfOk result (λ x. length x.1.now ≤ length words.now) }
 {
     let (test, rest) = bracketed(alloc, words, room)?;
-    let (body, rest) = block(alloc, rest, room)?;
+    let (test, (body, rest)) = both(test, block(alloc, rest, room))?;
     Ok((Arm { test, body }, rest))
 }
 
@@ -209,7 +233,7 @@ fn for_stmt(alloc: Global, words: &[Word], room: u8) -> Result<(Stmt, &[Word]), 
     ensures shorter { IfOk result (λ x. length x.1.now ≤ length words.now) }
 {
     let (name, list, rest) = each(alloc, words, room)?;
-    let (body, rest) = block(alloc, rest, room)?;
+    let (list, (body, rest)) = both(list, block(alloc, rest, room))?;
     Ok((Stmt::For(name, list, body), rest))
 }
 
@@ -231,6 +255,6 @@ fn each_of(alloc: Global, words: &[Word], room: u8) -> Result<(Text, Expr, &[Wor
 {
     let (name, rest) = name(alloc, let_word(words)?)?;
     let (list, rest) = expr(alloc, of_word(rest)?, room)?;
-    let rest = close_round(rest)?;
+    let (list, rest) = both(list, close_round(rest))?;
     Ok((name, list, rest))
 }

@@ -4,7 +4,7 @@ use Rattle.nb_syntax.specs.declared.tree.Expr.TheVariants as tree
 use Rattle.nb_grammar.specs.Words.{sum_sign, product_sign}
 use Rattle.nb_grammar.specs.Reading.{◌>>=◌, product, unary, sum, expr, inside_of, compare_at, or_part, and_part, operand, item, next_pair, close_square, close_curly}
 use Rattle.nb_grammar.proofs.Loops.{rounds_turn, or_part_falls, and_part_falls, summand_falls, factor_falls, step_falls, item_falls, pair_falls}
-use Rattle.nb_parser.proofs.Turns.{turn, stop, rounds_stop, bind_ok, bind_err, fails, or_at, and_at, item_at, pair_at, operand_at, compared_at, items_begin, pairs_begin, argument_turn, argument_comma, argument_stop}
+use Rattle.nb_parser.proofs.Turns.{turn, stop, rounds_stop, bind_ok, bind_err, fails, or_at, and_at, item_at, pair_at, operand_at, compared_at, both_ok, both_err, items_begin, pairs_begin, argument_turn, argument_comma, argument_stop}
 use Rattle.nb_parser.proofs.expressions.+expressions.Goals as goal
 
 pub or_parts-parts-preserved : goal.or_parts-parts-preserved
@@ -121,15 +121,18 @@ call-returns-in_err-arg-clause-gives t c =
 pub comparison-returns-clause-gives : goal.comparison-returns-clause-gives
 comparison-returns-clause-gives t c =
     let inside = inside_of c.args.room in
+    let right = both_ok _ c.in_ok-left.left c.sum-2.result c.in_ok-left-2.left (c.in_ok-left-2.right, c.in_ok-left-2.rest) (sum inside c.in-Some.behind.now)
+    c.in_ok-left-2.ensures c.sum-2.ensures.gives in
     bind_ok _ (λ e. compare_at inside e.0 e.1) _ c.in_ok-left.ensures.gives
     ∙ compared_at inside c.in_ok-left.left c.in_ok-left.rest.now c.in-Some.behind.now c.in-Some.sign c.in-Some.ensures.value
-    ∙ bind_ok _ _ _ c.in_ok-right.ensures.gives
-    ∙ ap (λ e. Ok (e, c.in_ok-right.rest.now)) (sym c.in_ok-compare_of.ensures)
+    ∙ bind_ok _ _ _ right.1
+    ∙ ap (λ e. Ok (e, c.in_ok-left-2.rest.now)) (sym (c.in_ok-compare_of.ensures ∙ ap (λ e. tree.Compare c.in-Some.sign e c.in_ok-left-2.right) right.0))
 
-pub comparison-returns-in_err-right-clause-gives : goal.comparison-returns-in_err-right-clause-gives
-comparison-returns-in_err-right-clause-gives t c =
+pub comparison-returns-in_err-left-2-clause-gives : goal.comparison-returns-in_err-left-2-clause-gives
+comparison-returns-in_err-left-2-clause-gives t c =
     let inside = inside_of c.args.room in
-    fails _ _ _ _ _ c.from_residual-in_err-right.ensures.1 c.in_err-right.ensures.gives (λ f is.
+    fails _ _ _ _ _ c.from_residual-in_err-left-2.ensures.1
+    (both_err _ c.in_ok-left.left c.sum-2.result c.in_err-left-2.field-0.0 (sum inside c.in-Some.behind.now) c.in_err-left-2.ensures c.sum-2.ensures.gives) (λ f is.
     bind_ok _ (λ e. compare_at inside e.0 e.1) _ c.in_ok-left.ensures.gives
     ∙ compared_at inside c.in_ok-left.left c.in_ok-left.rest.now c.in-Some.behind.now c.in-Some.sign c.in-Some.ensures.value
     ∙ bind_err _ _ f is)
