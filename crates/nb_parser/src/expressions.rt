@@ -1,6 +1,6 @@
 //! Expressions, by recursive descent: one function for a level, and `room`, the number of brackets that may still open.
 
-ghost use Rattle.std.specs.Prelude.{◌≡◌, ◌<◌, ◌≤◌, [], length, IfOk, IsSome};
+ghost use Rattle.std.specs.Prelude.{[]};
 ghost use Rattle.nb_grammar.specs.Words.{called, product_sign, sum_sign};
 ghost use Rattle.nb_grammar.specs.Reading.{Gives, inside_of, rounds, expr, choice, or, or_part, and, and_part, compare, sum, product, operand, unary, postfix, step, primary, named, call, bracketed, items, pairs, pair, name, key};
 
@@ -22,7 +22,6 @@ use std::alloc::Global;
 #[cycle(expressions)]
 pub fn expr(alloc: Global, words: &[Word], room: u8) -> Result<(Expr, &[Word]), Stop>
     ensures gives { Gives (λ x. (x.0, x.1.now)) result (expr (inside_of room) words.now) }
-    ensures shorter { IfOk result (λ x. length x.1.now ≤ length words.now) }
 {
     let (test, rest) = or(alloc, words, room)?;
     choice(alloc, test, rest, room)
@@ -32,7 +31,6 @@ pub fn expr(alloc: Global, words: &[Word], room: u8) -> Result<(Expr, &[Word]), 
 #[cycle(expressions)]
 fn choice(alloc: Global, test: Expr, words: &[Word], room: u8) -> Result<(Expr, &[Word]), Stop>
     ensures gives { Gives (λ x. (x.0, x.1.now)) result (choice (inside_of room) test words.now) }
-    ensures shorter { IfOk result (λ x. length x.1.now ≤ length words.now) }
 {
     let [Word::Question, rest @ ..] = words else {
         return Ok((test, words));
@@ -47,7 +45,6 @@ fn choice(alloc: Global, test: Expr, words: &[Word], room: u8) -> Result<(Expr, 
 #[cycle(expressions)]
 fn or(alloc: Global, words: &[Word], room: u8) -> Result<(Expr, &[Word]), Stop>
     ensures gives { Gives (λ x. (x.0, x.1.now)) result (or (inside_of room) words.now) }
-    ensures shorter { IfOk result (λ x. length x.1.now ≤ length words.now) }
 {
     let (first, rest) = and(alloc, words, room)?;
     let (first, (more, rest)) = both(first, or_parts(alloc, rest, room))?;
@@ -58,7 +55,6 @@ fn or(alloc: Global, words: &[Word], room: u8) -> Result<(Expr, &[Word]), Stop>
 #[cycle(expressions)]
 fn or_parts(alloc: Global, words: &[Word], room: u8) -> Result<(Items<Expr>, &[Word]), Stop>
     ensures gives { Gives (λ x. (x.0, x.1.now)) result (rounds (or_part (inside_of room)) [] words.now) }
-    ensures shorter { IfOk result (λ x. length x.1.now ≤ length words.now) }
 {
     let mut more = Items::new(alloc);
     let mut rest = words;
@@ -73,7 +69,6 @@ fn or_parts(alloc: Global, words: &[Word], room: u8) -> Result<(Items<Expr>, &[W
 #[cycle(expressions)]
 fn and(alloc: Global, words: &[Word], room: u8) -> Result<(Expr, &[Word]), Stop>
     ensures gives { Gives (λ x. (x.0, x.1.now)) result (and (inside_of room) words.now) }
-    ensures shorter { IfOk result (λ x. length x.1.now ≤ length words.now) }
 {
     let (first, rest) = comparison(alloc, words, room)?;
     let (first, (more, rest)) = both(first, and_parts(alloc, rest, room))?;
@@ -84,7 +79,6 @@ fn and(alloc: Global, words: &[Word], room: u8) -> Result<(Expr, &[Word]), Stop>
 #[cycle(expressions)]
 fn and_parts(alloc: Global, words: &[Word], room: u8) -> Result<(Items<Expr>, &[Word]), Stop>
     ensures gives { Gives (λ x. (x.0, x.1.now)) result (rounds (and_part (inside_of room)) [] words.now) }
-    ensures shorter { IfOk result (λ x. length x.1.now ≤ length words.now) }
 {
     let mut more = Items::new(alloc);
     let mut rest = words;
@@ -99,7 +93,6 @@ fn and_parts(alloc: Global, words: &[Word], room: u8) -> Result<(Items<Expr>, &[
 #[cycle(expressions)]
 fn comparison(alloc: Global, words: &[Word], room: u8) -> Result<(Expr, &[Word]), Stop>
     ensures gives { Gives (λ x. (x.0, x.1.now)) result (compare (inside_of room) words.now) }
-    ensures shorter { IfOk result (λ x. length x.1.now ≤ length words.now) }
 {
     let (left, rest) = sum(alloc, words, room)?;
     let Some((sign, behind)) = compare_sign(rest) else {
@@ -112,7 +105,6 @@ fn comparison(alloc: Global, words: &[Word], room: u8) -> Result<(Expr, &[Word])
 #[cycle(expressions)]
 fn sum(alloc: Global, words: &[Word], room: u8) -> Result<(Expr, &[Word]), Stop>
     ensures gives { Gives (λ x. (x.0, x.1.now)) result (sum (inside_of room) words.now) }
-    ensures shorter { IfOk result (λ x. length x.1.now ≤ length words.now) }
 {
     let (first, rest) = product(alloc, words, room)?;
     let (first, (more, rest)) = both(first, summands(alloc, rest, room))?;
@@ -123,7 +115,6 @@ fn sum(alloc: Global, words: &[Word], room: u8) -> Result<(Expr, &[Word]), Stop>
 #[cycle(expressions)]
 fn summands(alloc: Global, words: &[Word], room: u8) -> Result<(Items<Operand>, &[Word]), Stop>
     ensures gives { Gives (λ x. (x.0, x.1.now)) result (rounds (operand sum_sign (product (inside_of room))) [] words.now) }
-    ensures shorter { IfOk result (λ x. length x.1.now ≤ length words.now) }
 {
     let mut more = Items::new(alloc);
     let mut rest = words;
@@ -138,7 +129,6 @@ fn summands(alloc: Global, words: &[Word], room: u8) -> Result<(Items<Operand>, 
 #[cycle(expressions)]
 fn product(alloc: Global, words: &[Word], room: u8) -> Result<(Expr, &[Word]), Stop>
     ensures gives { Gives (λ x. (x.0, x.1.now)) result (product (inside_of room) words.now) }
-    ensures shorter { IfOk result (λ x. length x.1.now ≤ length words.now) }
 {
     let (first, rest) = unary(alloc, words, room)?;
     let (first, (more, rest)) = both(first, factors(alloc, rest, room))?;
@@ -149,7 +139,6 @@ fn product(alloc: Global, words: &[Word], room: u8) -> Result<(Expr, &[Word]), S
 #[cycle(expressions)]
 fn factors(alloc: Global, words: &[Word], room: u8) -> Result<(Items<Operand>, &[Word]), Stop>
     ensures gives { Gives (λ x. (x.0, x.1.now)) result (rounds (operand product_sign (unary (inside_of room))) [] words.now) }
-    ensures shorter { IfOk result (λ x. length x.1.now ≤ length words.now) }
 {
     let mut more = Items::new(alloc);
     let mut rest = words;
@@ -164,7 +153,6 @@ fn factors(alloc: Global, words: &[Word], room: u8) -> Result<(Items<Operand>, &
 #[cycle(expressions)]
 fn unary(alloc: Global, words: &[Word], room: u8) -> Result<(Expr, &[Word]), Stop>
     ensures gives { Gives (λ x. (x.0, x.1.now)) result (unary (inside_of room) words.now) }
-    ensures shorter { IfOk result (λ x. length x.1.now ≤ length words.now) }
 {
     match words {
         [Word::Minus, rest @ ..] => {
@@ -182,7 +170,6 @@ fn unary(alloc: Global, words: &[Word], room: u8) -> Result<(Expr, &[Word]), Sto
 #[cycle(expressions)]
 fn postfix(alloc: Global, words: &[Word], room: u8) -> Result<(Expr, &[Word]), Stop>
     ensures gives { Gives (λ x. (x.0, x.1.now)) result (postfix (inside_of room) words.now) }
-    ensures shorter { IfOk result (λ x. length x.1.now ≤ length words.now) }
 {
     let (root, rest) = primary(alloc, words, room)?;
     let (root, (steps, rest)) = both(root, path_steps(alloc, rest, room))?;
@@ -193,7 +180,6 @@ fn postfix(alloc: Global, words: &[Word], room: u8) -> Result<(Expr, &[Word]), S
 #[cycle(expressions)]
 fn path_steps(alloc: Global, words: &[Word], room: u8) -> Result<(Items<PathStep>, &[Word]), Stop>
     ensures gives { Gives (λ x. (x.0, x.1.now)) result (rounds (step (inside_of room)) [] words.now) }
-    ensures shorter { IfOk result (λ x. length x.1.now ≤ length words.now) }
 {
     let mut steps = Items::new(alloc);
     let mut rest = words;
@@ -211,8 +197,6 @@ fn path_steps(alloc: Global, words: &[Word], room: u8) -> Result<(Items<PathStep
 #[cycle(expressions)]
 fn step(alloc: Global, words: &[Word], room: u8) -> Result<(Option<PathStep>, &[Word]), Stop>
     ensures gives { Gives (λ x. (x.0, x.1.now)) result (step (inside_of room) words.now) }
-    ensures shorter { IfOk result (λ x. length x.1.now ≤ length words.now) }
-    ensures falls { IfOk result (λ x. IsSome x.0 → length x.1.now < length words.now) }
 {
     match words {
         [Word::Dot, rest @ ..] => {
@@ -231,7 +215,6 @@ fn step(alloc: Global, words: &[Word], room: u8) -> Result<(Option<PathStep>, &[
 #[cycle(expressions)]
 fn primary(alloc: Global, words: &[Word], room: u8) -> Result<(Expr, &[Word]), Stop>
     ensures gives { Gives (λ x. (x.0, x.1.now)) result (primary (inside_of room) words.now) }
-    ensures shorter { IfOk result (λ x. length x.1.now ≤ length words.now) }
 {
     match words {
         [Word::Number(number), rest @ ..] => Ok((Expr::Int(*number), rest)),
@@ -255,7 +238,6 @@ fn primary(alloc: Global, words: &[Word], room: u8) -> Result<(Expr, &[Word]), S
 #[cycle(expressions)]
 pub fn bracketed(alloc: Global, words: &[Word], room: u8) -> Result<(Expr, &[Word]), Stop>
     ensures gives { Gives (λ x. (x.0, x.1.now)) result (bracketed (inside_of room) words.now) }
-    ensures shorter { IfOk result (λ x. length x.1.now ≤ length words.now) }
 {
     let [Word::OpenRound, rest @ ..] = words else {
         return Err(fault_at(words));
@@ -273,7 +255,6 @@ fn named<'a>(
     room: u8,
 ) -> Result<(Expr, &'a [Word]), Stop>
     ensures gives { Gives (λ x. (x.0, x.1.now)) result (named (inside_of room) name.now (called name.now) words.now) }
-    ensures shorter { IfOk result (λ x. length x.1.now ≤ length words.now) }
 {
     match (function_of(name), words) {
         (Some(function), [Word::OpenRound, rest @ ..]) => {
@@ -292,7 +273,6 @@ fn call(
     room: u8,
 ) -> Result<(Expr, &[Word]), Stop>
     ensures gives { Gives (λ x. (x.0, x.1.now)) result (call (expr (inside_of room)) function words.now) }
-    ensures shorter { IfOk result (λ x. length x.1.now ≤ length words.now) }
 {
     let (first, mut rest) = expr(alloc, words, room)?;
     let mut args = Items::new(alloc);
@@ -310,7 +290,6 @@ fn call(
 #[cycle(expressions)]
 fn items(alloc: Global, words: &[Word], room: u8) -> Result<(Expr, &[Word]), Stop>
     ensures gives { Gives (λ x. (x.0, x.1.now)) result (items (expr (inside_of room)) words.now) }
-    ensures shorter { IfOk result (λ x. length x.1.now ≤ length words.now) }
 {
     let mut items = Items::new(alloc);
     if let [Word::CloseSquare, rest @ ..] = words {
@@ -331,7 +310,6 @@ fn items(alloc: Global, words: &[Word], room: u8) -> Result<(Expr, &[Word]), Sto
 #[cycle(expressions)]
 fn pairs(alloc: Global, words: &[Word], room: u8) -> Result<(Expr, &[Word]), Stop>
     ensures gives { Gives (λ x. (x.0, x.1.now)) result (pairs (expr (inside_of room)) words.now) }
-    ensures shorter { IfOk result (λ x. length x.1.now ≤ length words.now) }
 {
     let mut pairs = Items::new(alloc);
     if let [Word::CloseCurly, rest @ ..] = words {
@@ -351,7 +329,6 @@ fn pairs(alloc: Global, words: &[Word], room: u8) -> Result<(Expr, &[Word]), Sto
 #[cycle(expressions)]
 fn pair(alloc: Global, words: &[Word], room: u8) -> Result<(Member, &[Word]), Stop>
     ensures gives { Gives (λ x. (x.0, x.1.now)) result (pair (expr (inside_of room)) words.now) }
-    ensures shorter { IfOk result (λ x. length x.1.now ≤ length words.now) }
 {
     let (key, rest) = key(alloc, words)?;
     let (value, rest) = expr(alloc, colon(rest)?, room)?;

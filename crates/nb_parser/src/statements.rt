@@ -1,6 +1,6 @@
 //! Blocks and statements, by recursive descent. `room` is the number of brackets that may still open.
 
-ghost use Rattle.std.specs.Prelude.{◌≡◌, ◌∷◌, [], ◌<◌, ◌≤◌, length, IfOk, IsOkAnd, MatchResult, IsSome, Some, Err};
+ghost use Rattle.std.specs.Prelude.{◌≡◌, ◌∷◌, [], IsOkAnd, MatchResult, Some, Err};
 ghost use Rattle.nb_grammar.specs.Reading.{Gives, inside_of, expr, rounds, block, ended, assignment, let_stmt, arm, else_if, otherwise, if_stmt, while_stmt, each_of, each, for_stmt, next_stmt, stmts};
 ghost use Rattle.nb_parser.specs.Effects.{effect_of};
 
@@ -19,7 +19,6 @@ use std::alloc::Global;
 #[cycle(statements)]
 pub fn block(alloc: Global, words: &[Word], room: u8) -> Result<(Block, &[Word]), Stop>
     ensures gives { Gives (λ x. (x.0, x.1.now)) result (block (inside_of room) words.now) }
-    ensures shorter { IfOk result (λ x. length x.1.now ≤ length words.now) }
 {
     let [Word::OpenCurly, rest @ ..] = words else {
         return Err(fault_at(words));
@@ -32,7 +31,6 @@ pub fn block(alloc: Global, words: &[Word], room: u8) -> Result<(Block, &[Word])
 #[cycle(statements)]
 fn stmts(alloc: Global, words: &[Word], room: u8) -> Result<(Items<Stmt>, &[Word]), Stop>
     ensures gives { Gives (λ x. (x.0, x.1.now)) result (stmts (inside_of room) words.now) }
-    ensures shorter { IfOk result (λ x. length x.1.now ≤ length words.now) }
 {
     let mut stmts = Items::new(alloc);
     let mut rest = words;
@@ -50,8 +48,6 @@ fn stmts(alloc: Global, words: &[Word], room: u8) -> Result<(Items<Stmt>, &[Word
 #[cycle(statements)]
 fn next_stmt(alloc: Global, words: &[Word], room: u8) -> Result<(Option<Stmt>, &[Word]), Stop>
     ensures gives { Gives (λ x. (x.0, x.1.now)) result (next_stmt (inside_of room) words.now) }
-    ensures shorter { IfOk result (λ x. length x.1.now ≤ length words.now) }
-    ensures falls { IfOk result (λ x. IsSome x.0 → length x.1.now < length words.now) }
 {
     match words {
         [Word::Name(name), rest @ ..] => found(assignment(alloc, name, rest, room)),
@@ -111,7 +107,6 @@ fn effect_of(effect: Effect, value: Expr) -> Stmt
 /// The expression at the head of the words, with the `;` that ends it.
 fn ended(alloc: Global, words: &[Word], room: u8) -> Result<(Expr, &[Word]), Stop>
     ensures gives { Gives (λ x. (x.0, x.1.now)) result (ended (inside_of room) words.now) }
-    ensures shorter { IfOk result (λ x. length x.1.now ≤ length words.now) }
 {
     let (value, rest) = expr(alloc, words, room)?;
     both(value, semicolon(rest))
@@ -125,7 +120,6 @@ fn assignment<'a>(
     room: u8,
 ) -> Result<(Stmt, &'a [Word]), Stop>
     ensures gives { Gives (λ x. (x.0, x.1.now)) result (assignment (inside_of room) name.now words.now) }
-    ensures shorter { IfOk result (λ x. length x.1.now ≤ length words.now) }
 {
     let rest = assign(words)?;
     let name = name.copy(alloc)?;
@@ -136,7 +130,6 @@ fn assignment<'a>(
 /// What stands behind `let`.
 fn let_stmt(alloc: Global, words: &[Word], room: u8) -> Result<(Stmt, &[Word]), Stop>
     ensures gives { Gives (λ x. (x.0, x.1.now)) result (let_stmt (inside_of room) words.now) }
-    ensures shorter { IfOk result (λ x. length x.1.now ≤ length words.now) }
 {
     let (name, rest) = name(alloc, words)?;
     let (value, rest) = ended(alloc, assign(rest)?, room)?;
@@ -147,7 +140,6 @@ fn let_stmt(alloc: Global, words: &[Word], room: u8) -> Result<(Stmt, &[Word]), 
 #[cycle(statements)]
 fn if_stmt(alloc: Global, words: &[Word], room: u8) -> Result<(Stmt, &[Word]), Stop>
     ensures gives { Gives (λ x. (x.0, x.1.now)) result (if_stmt (inside_of room) words.now) }
-    ensures shorter { IfOk result (λ x. length x.1.now ≤ length words.now) }
 {
     let (first, rest) = arm(alloc, words, room)?;
     let (arms, rest) = arms(alloc, first, rest, room)?;
@@ -159,7 +151,6 @@ fn if_stmt(alloc: Global, words: &[Word], room: u8) -> Result<(Stmt, &[Word]), S
 #[cycle(statements)]
 fn arm(alloc: Global, words: &[Word], room: u8) -> Result<(Arm, &[Word]), Stop>
     ensures gives { Gives (λ x. (x.0, x.1.now)) result (arm (inside_of room) words.now) }
-    ensures shorter { IfOk result (λ x. length x.1.now ≤ length words.now) }
 {
     let (test, rest) = bracketed(alloc, words, room)?;
     let (test, (body, rest)) = both(test, block(alloc, rest, room))?;
@@ -170,7 +161,6 @@ fn arm(alloc: Global, words: &[Word], room: u8) -> Result<(Arm, &[Word]), Stop>
 #[cycle(statements)]
 fn arms(alloc: Global, first: Arm, words: &[Word], room: u8) -> Result<(Items<Arm>, &[Word]), Stop>
     ensures gives { Gives (λ x. (x.0, x.1.now)) result (rounds (else_if (inside_of room)) (first ∷ []) words.now) }
-    ensures shorter { IfOk result (λ x. length x.1.now ≤ length words.now) }
 {
     let mut arms = Items::new(alloc);
     arms.push(first)?;
@@ -189,8 +179,6 @@ fn arms(alloc: Global, first: Arm, words: &[Word], room: u8) -> Result<(Items<Ar
 #[cycle(statements)]
 fn else_if(alloc: Global, words: &[Word], room: u8) -> Result<(Option<Arm>, &[Word]), Stop>
     ensures gives { Gives (λ x. (x.0, x.1.now)) result (else_if (inside_of room) words.now) }
-    ensures shorter { IfOk result (λ x. length x.1.now ≤ length words.now) }
-    ensures falls { IfOk result (λ x. IsSome x.0 → length x.1.now < length words.now) }
 {
     match words {
         [Word::Else, Word::If, rest @ ..] => {
@@ -205,7 +193,6 @@ fn else_if(alloc: Global, words: &[Word], room: u8) -> Result<(Option<Arm>, &[Wo
 #[cycle(statements)]
 fn otherwise(alloc: Global, words: &[Word], room: u8) -> Result<(Option<Block>, &[Word]), Stop>
     ensures gives { Gives (λ x. (x.0, x.1.now)) result (otherwise (inside_of room) words.now) }
-    ensures shorter { IfOk result (λ x. length x.1.now ≤ length words.now) }
 {
     match words {
         [Word::Else, rest @ ..] => {
@@ -220,7 +207,6 @@ fn otherwise(alloc: Global, words: &[Word], room: u8) -> Result<(Option<Block>, 
 #[cycle(statements)]
 fn while_stmt(alloc: Global, words: &[Word], room: u8) -> Result<(Stmt, &[Word]), Stop>
     ensures gives { Gives (λ x. (x.0, x.1.now)) result (while_stmt (inside_of room) words.now) }
-    ensures shorter { IfOk result (λ x. length x.1.now ≤ length words.now) }
 {
     let (arm, rest) = arm(alloc, words, room)?;
     Ok((Stmt::While(arm.test, arm.body), rest))
@@ -230,7 +216,6 @@ fn while_stmt(alloc: Global, words: &[Word], room: u8) -> Result<(Stmt, &[Word])
 #[cycle(statements)]
 fn for_stmt(alloc: Global, words: &[Word], room: u8) -> Result<(Stmt, &[Word]), Stop>
     ensures gives { Gives (λ x. (x.0, x.1.now)) result (for_stmt (inside_of room) words.now) }
-    ensures shorter { IfOk result (λ x. length x.1.now ≤ length words.now) }
 {
     let (name, list, rest) = each(alloc, words, room)?;
     let (list, (body, rest)) = both(list, block(alloc, rest, room))?;
@@ -240,7 +225,6 @@ fn for_stmt(alloc: Global, words: &[Word], room: u8) -> Result<(Stmt, &[Word]), 
 /// The name and the list of a `for`, in their brackets.
 fn each(alloc: Global, words: &[Word], room: u8) -> Result<(Text, Expr, &[Word]), Stop>
     ensures gives { Gives (λ x. ((x.0, x.1), x.2.now)) result (each (inside_of room) words.now) }
-    ensures shorter { IfOk result (λ x. length x.2.now ≤ length words.now) }
 {
     let [Word::OpenRound, rest @ ..] = words else {
         return Err(fault_at(words));
@@ -251,7 +235,6 @@ fn each(alloc: Global, words: &[Word], room: u8) -> Result<(Text, Expr, &[Word])
 /// The name and the list of a `for`, behind the opening bracket.
 fn each_of(alloc: Global, words: &[Word], room: u8) -> Result<(Text, Expr, &[Word]), Stop>
     ensures gives { Gives (λ x. ((x.0, x.1), x.2.now)) result (each_of (expr (inside_of room)) words.now) }
-    ensures shorter { IfOk result (λ x. length x.2.now ≤ length words.now) }
 {
     let (name, rest) = name(alloc, let_word(words)?)?;
     let (list, rest) = expr(alloc, of_word(rest)?, room)?;
