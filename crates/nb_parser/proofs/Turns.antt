@@ -1,5 +1,5 @@
 -- One turn of a loop of the code: what is left, from here, is the whole from the start.
-use Rattle.std.proofs.Common.{◌≡◌, ◌≤◌, ◌<◌, ◌-◌, ◌+◌, ℕ, zero, suc, refl, sym, ap, subst, ◌∙◌, List, [], ◌∷◌, ◌++◌, length, Option, Some, None, Result, Ok, Err, arith}
+use Rattle.std.proofs.Common.{◌≡◌, ◌≤◌, ◌<◌, ◌-◌, ◌+◌, ℕ, zero, suc, refl, sym, ap, subst, ◌∙◌, List, [], ◌∷◌, ◌++◌, length, Option, Some, None, Result, Ok, Err, MatchResult, arith}
 use Rattle.nb_value.specs.Function.{arity}
 use Rattle.nb_value.specs.declared.function.Function.{Function}
 use Rattle.nb_lexer.specs.declared.word.Word.{Word}
@@ -67,7 +67,7 @@ pub fails : {X Y Z : Type 0} (view : X → Y) (result : Result X Stop) (s : Stop
 fails view (Ok x) s part read is f on = absurd is
 fails view (Err e) s part read is f on = subst (λ t. Fails t read) (sym is) (fails_on s part read f on)
 
--- ---- operators
+-- ---- equations of pairs and options
 
 some_is : {A : Type 0} {a b : A} → Some a ≡ Some b → a ≡ b
 some_is e = cc
@@ -77,6 +77,24 @@ first_is {A} {B} e = ap (λ (x : A × B). x.0) e
 
 second_is : {A B : Type 0} {a c : A} {b d : B} → ◌≡◌ {A = A × B} (a, b) (c, d) → b ≡ d
 second_is {A} {B} e = ap (λ (x : A × B). x.1) e
+
+-- ---- what was read while a value was kept
+
+pub both_ok : {A B Y : Type 0} (view : B → Y) (kept : A) (other : Result B Stop) (a : A) (b : B) (read : Result Y Fault)
+    → MatchResult other (λ o. ◌≡◌ {A = Result (A × B) Stop} (Ok (a, b)) (Ok (kept, o))) (λ e. ◌≡◌ {A = Result (A × B) Stop} (Ok (a, b)) (Err e))
+    → Gives view other read → (a ≡ kept) × (read ≡ Ok (view b))
+both_ok {A} {B} view kept (Ok o) a b read is gives =
+    let p : ◌≡◌ {A = A × B} (a, b) (kept, o) = cc in
+    (first_is p, gives ∙ ap (λ x. Ok (view x)) (sym (second_is p)))
+both_ok view kept (Err e) a b read is gives = cc
+
+pub both_err : {A B Y : Type 0} (view : B → Y) (kept : A) (other : Result B Stop) (s : Stop) (read : Result Y Fault)
+    → MatchResult other (λ o. ◌≡◌ {A = Result (A × B) Stop} (Err s) (Ok (kept, o))) (λ e. ◌≡◌ {A = Result (A × B) Stop} (Err s) (Err e))
+    → Gives view other read → Fails s read
+both_err view kept (Ok o) s read is gives = cc
+both_err view kept (Err e) s read is gives = let p : s ≡ e = cc in subst (λ t. Fails t read) (sym p) gives
+
+-- ---- operators at the head
 
 pub record Head (sign : Word → Option Sign) (ws : List Word) (s : Sign) (rest : List Word) : Type 0 where
   pub word : Word

@@ -1,3 +1,4 @@
+pub mod Effects
 pub mod Heads
 pub mod Text
 pub mod Parse

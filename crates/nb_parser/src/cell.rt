@@ -7,7 +7,7 @@ ghost use Rattle.nb_syntax.specs.declared.tree.Cell.{Cell};
 ghost use Rattle.nb_grammar.specs.declared.fault.Fault.{Fault};
 
 use crate::expressions::expr;
-use crate::marks::fault_at;
+use crate::marks::fault_behind;
 use crate::statements::block;
 use nb_grammar::Stop;
 use nb_lexer::Word;
@@ -44,7 +44,7 @@ fn whole(alloc: Global, words: &[Word], room: u8) -> Result<Cell, Stop>
     if rest.is_empty() {
         Ok(cell)
     } else {
-        Err(fault_at(rest))
+        Err(fault_behind(cell, rest))
     }
 }
 
@@ -54,8 +54,9 @@ fn cell(alloc: Global, words: &[Word], room: u8) -> Result<(Cell, &[Word]), Stop
 {
     match words {
         [Word::Name(name), Word::Assign, rest @ ..] => {
-            let name = Some(name.copy(alloc)?);
+            let name = name.copy(alloc)?;
             let (body, rest) = body(alloc, rest, room)?;
+            let name = Some(name);
             Ok((Cell { name, body }, rest))
         }
         _ => {

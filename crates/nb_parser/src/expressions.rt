@@ -1,10 +1,11 @@
 //! Expressions, by recursive descent: one function for a level, and `room`, the number of brackets that may still open.
 
-ghost use Rattle.std.specs.Prelude.{◌≡◌, ◌<◌, ◌≤◌, [], length, IfOk, IsSome};
+ghost use Rattle.std.specs.Prelude.{[]};
 ghost use Rattle.nb_grammar.specs.Words.{called, product_sign, sum_sign};
 ghost use Rattle.nb_grammar.specs.Reading.{Gives, inside_of, rounds, expr, choice, or, or_part, and, and_part, compare, sum, product, operand, unary, postfix, step, primary, named, call, bracketed, items, pairs, pair, name, key};
 
 use crate::functions::function_of;
+use crate::keep::both;
 use crate::marks::{
     after_and, after_comma, after_or, close_curly, close_round, close_square, colon, comma, enter,
     fault_at, key, name,
@@ -21,7 +22,6 @@ use std::alloc::Global;
 #[cycle(expressions)]
 pub fn expr(alloc: Global, words: &[Word], room: u8) -> Result<(Expr, &[Word]), Stop>
     ensures gives { Gives (λ x. (x.0, x.1.now)) result (expr (inside_of room) words.now) }
-    ensures shorter { IfOk result (λ x. length x.1.now ≤ length words.now) }
 {
     let (test, rest) = or(alloc, words, room)?;
     choice(alloc, test, rest, room)
@@ -31,7 +31,6 @@ pub fn expr(alloc: Global, words: &[Word], room: u8) -> Result<(Expr, &[Word]), 
 #[cycle(expressions)]
 fn choice(alloc: Global, test: Expr, words: &[Word], room: u8) -> Result<(Expr, &[Word]), Stop>
     ensures gives { Gives (λ x. (x.0, x.1.now)) result (choice (inside_of room) test words.now) }
-    ensures shorter { IfOk result (λ x. length x.1.now ≤ length words.now) }
 {
     let [Word::Question, rest @ ..] = words else {
         return Ok((test, words));
@@ -46,10 +45,9 @@ fn choice(alloc: Global, test: Expr, words: &[Word], room: u8) -> Result<(Expr, 
 #[cycle(expressions)]
 fn or(alloc: Global, words: &[Word], room: u8) -> Result<(Expr, &[Word]), Stop>
     ensures gives { Gives (λ x. (x.0, x.1.now)) result (or (inside_of room) words.now) }
-    ensures shorter { IfOk result (λ x. length x.1.now ≤ length words.now) }
 {
     let (first, rest) = and(alloc, words, room)?;
-    let (more, rest) = or_parts(alloc, rest, room)?;
+    let (first, (more, rest)) = both(first, or_parts(alloc, rest, room))?;
     Ok((or_of(alloc, first, more)?, rest))
 }
 
@@ -57,7 +55,6 @@ fn or(alloc: Global, words: &[Word], room: u8) -> Result<(Expr, &[Word]), Stop>
 #[cycle(expressions)]
 fn or_parts(alloc: Global, words: &[Word], room: u8) -> Result<(Items<Expr>, &[Word]), Stop>
     ensures gives { Gives (λ x. (x.0, x.1.now)) result (rounds (or_part (inside_of room)) [] words.now) }
-    ensures shorter { IfOk result (λ x. length x.1.now ≤ length words.now) }
 {
     let mut more = Items::new(alloc);
     let mut rest = words;
@@ -72,10 +69,9 @@ fn or_parts(alloc: Global, words: &[Word], room: u8) -> Result<(Items<Expr>, &[W
 #[cycle(expressions)]
 fn and(alloc: Global, words: &[Word], room: u8) -> Result<(Expr, &[Word]), Stop>
     ensures gives { Gives (λ x. (x.0, x.1.now)) result (and (inside_of room) words.now) }
-    ensures shorter { IfOk result (λ x. length x.1.now ≤ length words.now) }
 {
     let (first, rest) = comparison(alloc, words, room)?;
-    let (more, rest) = and_parts(alloc, rest, room)?;
+    let (first, (more, rest)) = both(first, and_parts(alloc, rest, room))?;
     Ok((and_of(alloc, first, more)?, rest))
 }
 
@@ -83,7 +79,6 @@ fn and(alloc: Global, words: &[Word], room: u8) -> Result<(Expr, &[Word]), Stop>
 #[cycle(expressions)]
 fn and_parts(alloc: Global, words: &[Word], room: u8) -> Result<(Items<Expr>, &[Word]), Stop>
     ensures gives { Gives (λ x. (x.0, x.1.now)) result (rounds (and_part (inside_of room)) [] words.now) }
-    ensures shorter { IfOk result (λ x. length x.1.now ≤ length words.now) }
 {
     let mut more = Items::new(alloc);
     let mut rest = words;
@@ -98,23 +93,21 @@ fn and_parts(alloc: Global, words: &[Word], room: u8) -> Result<(Items<Expr>, &[
 #[cycle(expressions)]
 fn comparison(alloc: Global, words: &[Word], room: u8) -> Result<(Expr, &[Word]), Stop>
     ensures gives { Gives (λ x. (x.0, x.1.now)) result (compare (inside_of room) words.now) }
-    ensures shorter { IfOk result (λ x. length x.1.now ≤ length words.now) }
 {
     let (left, rest) = sum(alloc, words, room)?;
     let Some((sign, behind)) = compare_sign(rest) else {
         return Ok((left, rest));
     };
-    let (right, rest) = sum(alloc, behind, room)?;
+    let (left, (right, rest)) = both(left, sum(alloc, behind, room))?;
     Ok((compare_of(alloc, sign, left, right)?, rest))
 }
 
 #[cycle(expressions)]
 fn sum(alloc: Global, words: &[Word], room: u8) -> Result<(Expr, &[Word]), Stop>
     ensures gives { Gives (λ x. (x.0, x.1.now)) result (sum (inside_of room) words.now) }
-    ensures shorter { IfOk result (λ x. length x.1.now ≤ length words.now) }
 {
     let (first, rest) = product(alloc, words, room)?;
-    let (more, rest) = summands(alloc, rest, room)?;
+    let (first, (more, rest)) = both(first, summands(alloc, rest, room))?;
     Ok((sum_of(alloc, first, more)?, rest))
 }
 
@@ -122,7 +115,6 @@ fn sum(alloc: Global, words: &[Word], room: u8) -> Result<(Expr, &[Word]), Stop>
 #[cycle(expressions)]
 fn summands(alloc: Global, words: &[Word], room: u8) -> Result<(Items<Operand>, &[Word]), Stop>
     ensures gives { Gives (λ x. (x.0, x.1.now)) result (rounds (operand sum_sign (product (inside_of room))) [] words.now) }
-    ensures shorter { IfOk result (λ x. length x.1.now ≤ length words.now) }
 {
     let mut more = Items::new(alloc);
     let mut rest = words;
@@ -137,10 +129,9 @@ fn summands(alloc: Global, words: &[Word], room: u8) -> Result<(Items<Operand>, 
 #[cycle(expressions)]
 fn product(alloc: Global, words: &[Word], room: u8) -> Result<(Expr, &[Word]), Stop>
     ensures gives { Gives (λ x. (x.0, x.1.now)) result (product (inside_of room) words.now) }
-    ensures shorter { IfOk result (λ x. length x.1.now ≤ length words.now) }
 {
     let (first, rest) = unary(alloc, words, room)?;
-    let (more, rest) = factors(alloc, rest, room)?;
+    let (first, (more, rest)) = both(first, factors(alloc, rest, room))?;
     Ok((product_of(alloc, first, more)?, rest))
 }
 
@@ -148,7 +139,6 @@ fn product(alloc: Global, words: &[Word], room: u8) -> Result<(Expr, &[Word]), S
 #[cycle(expressions)]
 fn factors(alloc: Global, words: &[Word], room: u8) -> Result<(Items<Operand>, &[Word]), Stop>
     ensures gives { Gives (λ x. (x.0, x.1.now)) result (rounds (operand product_sign (unary (inside_of room))) [] words.now) }
-    ensures shorter { IfOk result (λ x. length x.1.now ≤ length words.now) }
 {
     let mut more = Items::new(alloc);
     let mut rest = words;
@@ -163,7 +153,6 @@ fn factors(alloc: Global, words: &[Word], room: u8) -> Result<(Items<Operand>, &
 #[cycle(expressions)]
 fn unary(alloc: Global, words: &[Word], room: u8) -> Result<(Expr, &[Word]), Stop>
     ensures gives { Gives (λ x. (x.0, x.1.now)) result (unary (inside_of room) words.now) }
-    ensures shorter { IfOk result (λ x. length x.1.now ≤ length words.now) }
 {
     match words {
         [Word::Minus, rest @ ..] => {
@@ -181,10 +170,9 @@ fn unary(alloc: Global, words: &[Word], room: u8) -> Result<(Expr, &[Word]), Sto
 #[cycle(expressions)]
 fn postfix(alloc: Global, words: &[Word], room: u8) -> Result<(Expr, &[Word]), Stop>
     ensures gives { Gives (λ x. (x.0, x.1.now)) result (postfix (inside_of room) words.now) }
-    ensures shorter { IfOk result (λ x. length x.1.now ≤ length words.now) }
 {
     let (root, rest) = primary(alloc, words, room)?;
-    let (steps, rest) = path_steps(alloc, rest, room)?;
+    let (root, (steps, rest)) = both(root, path_steps(alloc, rest, room))?;
     Ok((path_of(alloc, root, steps)?, rest))
 }
 
@@ -192,7 +180,6 @@ fn postfix(alloc: Global, words: &[Word], room: u8) -> Result<(Expr, &[Word]), S
 #[cycle(expressions)]
 fn path_steps(alloc: Global, words: &[Word], room: u8) -> Result<(Items<PathStep>, &[Word]), Stop>
     ensures gives { Gives (λ x. (x.0, x.1.now)) result (rounds (step (inside_of room)) [] words.now) }
-    ensures shorter { IfOk result (λ x. length x.1.now ≤ length words.now) }
 {
     let mut steps = Items::new(alloc);
     let mut rest = words;
@@ -210,8 +197,6 @@ fn path_steps(alloc: Global, words: &[Word], room: u8) -> Result<(Items<PathStep
 #[cycle(expressions)]
 fn step(alloc: Global, words: &[Word], room: u8) -> Result<(Option<PathStep>, &[Word]), Stop>
     ensures gives { Gives (λ x. (x.0, x.1.now)) result (step (inside_of room) words.now) }
-    ensures shorter { IfOk result (λ x. length x.1.now ≤ length words.now) }
-    ensures falls { IfOk result (λ x. IsSome x.0 → length x.1.now < length words.now) }
 {
     match words {
         [Word::Dot, rest @ ..] => {
@@ -220,7 +205,7 @@ fn step(alloc: Global, words: &[Word], room: u8) -> Result<(Option<PathStep>, &[
         }
         [Word::OpenSquare, rest @ ..] => {
             let (index, rest) = expr(alloc, rest, enter(words, room)?)?;
-            let rest = close_square(rest)?;
+            let (index, rest) = both(index, close_square(rest))?;
             Ok((Some(PathStep::At(index)), rest))
         }
         _ => Ok((None, words)),
@@ -230,7 +215,6 @@ fn step(alloc: Global, words: &[Word], room: u8) -> Result<(Option<PathStep>, &[
 #[cycle(expressions)]
 fn primary(alloc: Global, words: &[Word], room: u8) -> Result<(Expr, &[Word]), Stop>
     ensures gives { Gives (λ x. (x.0, x.1.now)) result (primary (inside_of room) words.now) }
-    ensures shorter { IfOk result (λ x. length x.1.now ≤ length words.now) }
 {
     match words {
         [Word::Number(number), rest @ ..] => Ok((Expr::Int(*number), rest)),
@@ -254,14 +238,12 @@ fn primary(alloc: Global, words: &[Word], room: u8) -> Result<(Expr, &[Word]), S
 #[cycle(expressions)]
 pub fn bracketed(alloc: Global, words: &[Word], room: u8) -> Result<(Expr, &[Word]), Stop>
     ensures gives { Gives (λ x. (x.0, x.1.now)) result (bracketed (inside_of room) words.now) }
-    ensures shorter { IfOk result (λ x. length x.1.now ≤ length words.now) }
 {
     let [Word::OpenRound, rest @ ..] = words else {
         return Err(fault_at(words));
     };
     let (inner, rest) = expr(alloc, rest, enter(words, room)?)?;
-    let rest = close_round(rest)?;
-    Ok((inner, rest))
+    both(inner, close_round(rest))
 }
 
 /// What begins with a name, behind which the words stand: a call of a function, or the name itself.
@@ -273,7 +255,6 @@ fn named<'a>(
     room: u8,
 ) -> Result<(Expr, &'a [Word]), Stop>
     ensures gives { Gives (λ x. (x.0, x.1.now)) result (named (inside_of room) name.now (called name.now) words.now) }
-    ensures shorter { IfOk result (λ x. length x.1.now ≤ length words.now) }
 {
     match (function_of(name), words) {
         (Some(function), [Word::OpenRound, rest @ ..]) => {
@@ -292,7 +273,6 @@ fn call(
     room: u8,
 ) -> Result<(Expr, &[Word]), Stop>
     ensures gives { Gives (λ x. (x.0, x.1.now)) result (call (expr (inside_of room)) function words.now) }
-    ensures shorter { IfOk result (λ x. length x.1.now ≤ length words.now) }
 {
     let (first, mut rest) = expr(alloc, words, room)?;
     let mut args = Items::new(alloc);
@@ -310,7 +290,6 @@ fn call(
 #[cycle(expressions)]
 fn items(alloc: Global, words: &[Word], room: u8) -> Result<(Expr, &[Word]), Stop>
     ensures gives { Gives (λ x. (x.0, x.1.now)) result (items (expr (inside_of room)) words.now) }
-    ensures shorter { IfOk result (λ x. length x.1.now ≤ length words.now) }
 {
     let mut items = Items::new(alloc);
     if let [Word::CloseSquare, rest @ ..] = words {
@@ -331,7 +310,6 @@ fn items(alloc: Global, words: &[Word], room: u8) -> Result<(Expr, &[Word]), Sto
 #[cycle(expressions)]
 fn pairs(alloc: Global, words: &[Word], room: u8) -> Result<(Expr, &[Word]), Stop>
     ensures gives { Gives (λ x. (x.0, x.1.now)) result (pairs (expr (inside_of room)) words.now) }
-    ensures shorter { IfOk result (λ x. length x.1.now ≤ length words.now) }
 {
     let mut pairs = Items::new(alloc);
     if let [Word::CloseCurly, rest @ ..] = words {
@@ -351,7 +329,6 @@ fn pairs(alloc: Global, words: &[Word], room: u8) -> Result<(Expr, &[Word]), Sto
 #[cycle(expressions)]
 fn pair(alloc: Global, words: &[Word], room: u8) -> Result<(Member, &[Word]), Stop>
     ensures gives { Gives (λ x. (x.0, x.1.now)) result (pair (expr (inside_of room)) words.now) }
-    ensures shorter { IfOk result (λ x. length x.1.now ≤ length words.now) }
 {
     let (key, rest) = key(alloc, words)?;
     let (value, rest) = expr(alloc, colon(rest)?, room)?;

@@ -5,6 +5,7 @@ mod cell;
 mod error;
 mod expressions;
 mod functions;
+mod keep;
 mod laws;
 mod marks;
 mod nodes;

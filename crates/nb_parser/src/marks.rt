@@ -22,6 +22,13 @@ pub fn fault_at(words: &[Word]) -> Stop
     }
 }
 
+/// The same, where a value has been read before these words, which is let go of here.
+pub fn fault_behind<A: Drop>(_read: A, words: &[Word]) -> Stop
+    ensures { result ≡ stops.Fault (fault words.now) }
+{
+    fault_at(words)
+}
+
 /// The words behind the `||` at the head, if it is one.
 pub fn after_or(words: &[Word]) -> Option<&[Word]>
     ensures value { option_map (λ x. x.now) result ≡ after_or words.now }

@@ -4,6 +4,7 @@ ghost use Rattle.std.specs.Prelude.{◌≡◌, IfOk};
 ghost use Rattle.nb_syntax.specs.declared.tree.Expr.TheVariants as tree;
 ghost use Rattle.nb_grammar.specs.Reading.{path_of, product_of, sum_of, and_of, or_of};
 
+use crate::keep::both;
 use nb_syntax::{Expr, Operand, PathStep, Sign};
 use nb_value::{Boxed, Items};
 use std::alloc::{AllocError, Global};
@@ -75,9 +76,8 @@ pub fn unary_of(alloc: Global, sign: Sign, part: Expr) -> Result<Expr, AllocErro
 pub fn compare_of(alloc: Global, sign: Sign, left: Expr, right: Expr) -> Result<Expr, AllocError>
     ensures { IfOk result (λ e. e ≡ tree.Compare sign left right) }
 {
-    let left = Boxed::new(alloc, left)?;
-    let right = Boxed::new(alloc, right)?;
-    Ok(Expr::Compare(sign, left, right))
+    let (right, left) = both(right, Boxed::new(alloc, left))?;
+    Ok(Expr::Compare(sign, left, Boxed::new(alloc, right)?))
 }
 
 /// What is fetched under a key.

@@ -1,9 +1,11 @@
 //! Blocks and statements, by recursive descent. `room` is the number of brackets that may still open.
 
-ghost use Rattle.std.specs.Prelude.{◌≡◌, ◌∷◌, [], ◌<◌, ◌≤◌, length, IfOk, IsSome, Some};
+ghost use Rattle.std.specs.Prelude.{◌≡◌, ◌∷◌, [], IsOkAnd, MatchResult, Some, Err};
 ghost use Rattle.nb_grammar.specs.Reading.{Gives, inside_of, expr, rounds, block, ended, assignment, let_stmt, arm, else_if, otherwise, if_stmt, while_stmt, each_of, each, for_stmt, next_stmt, stmts};
+ghost use Rattle.nb_parser.specs.Effects.{effect_of};
 
 use crate::expressions::{bracketed, expr};
+use crate::keep::both;
 use crate::marks::{
     assign, close_curly, close_round, enter, fault_at, let_word, name, of_word, semicolon,
 };
@@ -17,7 +19,6 @@ use std::alloc::Global;
 #[cycle(statements)]
 pub fn block(alloc: Global, words: &[Word], room: u8) -> Result<(Block, &[Word]), Stop>
     ensures gives { Gives (λ x. (x.0, x.1.now)) result (block (inside_of room) words.now) }
-    ensures shorter { IfOk result (λ x. length x.1.now ≤ length words.now) }
 {
     let [Word::OpenCurly, rest @ ..] = words else {
         return Err(fault_at(words));
@@ -30,7 +31,6 @@ pub fn block(alloc: Global, words: &[Word], room: u8) -> Result<(Block, &[Word])
 #[cycle(statements)]
 fn stmts(alloc: Global, words: &[Word], room: u8) -> Result<(Items<Stmt>, &[Word]), Stop>
     ensures gives { Gives (λ x. (x.0, x.1.now)) result (stmts (inside_of room) words.now) }
-    ensures shorter { IfOk result (λ x. length x.1.now ≤ length words.now) }
 {
     let mut stmts = Items::new(alloc);
     let mut rest = words;
@@ -48,49 +48,68 @@ fn stmts(alloc: Global, words: &[Word], room: u8) -> Result<(Items<Stmt>, &[Word
 #[cycle(statements)]
 fn next_stmt(alloc: Global, words: &[Word], room: u8) -> Result<(Option<Stmt>, &[Word]), Stop>
     ensures gives { Gives (λ x. (x.0, x.1.now)) result (next_stmt (inside_of room) words.now) }
-    ensures shorter { IfOk result (λ x. length x.1.now ≤ length words.now) }
-    ensures falls { IfOk result (λ x. IsSome x.0 → length x.1.now < length words.now) }
 {
     match words {
-        [Word::Name(name), rest @ ..] => Ok(found(assignment(alloc, name, rest, room)?)),
-        [Word::Let, rest @ ..] => Ok(found(let_stmt(alloc, rest, room)?)),
-        [Word::If, rest @ ..] => Ok(found(if_stmt(alloc, rest, room)?)),
-        [Word::While, rest @ ..] => Ok(found(while_stmt(alloc, rest, room)?)),
-        [Word::For, rest @ ..] => Ok(found(for_stmt(alloc, rest, room)?)),
-        [Word::Yield, rest @ ..] => {
-            let (value, rest) = ended(alloc, rest, room)?;
-            Ok((Some(Stmt::Yield(value)), rest))
-        }
-        [Word::Return, rest @ ..] => {
-            let (value, rest) = ended(alloc, rest, room)?;
-            Ok((Some(Stmt::Return(value)), rest))
-        }
-        [Word::Throw, rest @ ..] => {
-            let (value, rest) = ended(alloc, rest, room)?;
-            Ok((Some(Stmt::Throw(value)), rest))
-        }
-        [Word::Cleanup, rest @ ..] => {
-            let (value, rest) = ended(alloc, rest, room)?;
-            Ok((Some(Stmt::Cleanup(value)), rest))
-        }
+        [Word::Name(name), rest @ ..] => found(assignment(alloc, name, rest, room)),
+        [Word::Let, rest @ ..] => found(let_stmt(alloc, rest, room)),
+        [Word::If, rest @ ..] => found(if_stmt(alloc, rest, room)),
+        [Word::While, rest @ ..] => found(while_stmt(alloc, rest, room)),
+        [Word::For, rest @ ..] => found(for_stmt(alloc, rest, room)),
+        [Word::Yield, rest @ ..] => found_effect(Effect::Yield, ended(alloc, rest, room)),
+        [Word::Return, rest @ ..] => found_effect(Effect::Return, ended(alloc, rest, room)),
+        [Word::Throw, rest @ ..] => found_effect(Effect::Throw, ended(alloc, rest, room)),
+        [Word::Cleanup, rest @ ..] => found_effect(Effect::Cleanup, ended(alloc, rest, room)),
         _ => Ok((None, words)),
     }
 }
 
-fn found(read: (Stmt, &[Word])) -> (Option<Stmt>, &[Word])
-    ensures { (result.0 ≡ Some read.entry.0) × (result.1.now ≡ read.entry.1.now) }
+fn found(read: Result<(Stmt, &[Word]), Stop>) -> Result<(Option<Stmt>, &[Word]), Stop>
+    ensures { MatchResult read.entry
+        (λ r. IsOkAnd result (λ x. (x.0 ≡ Some r.0) × (x.1.now ≡ r.1.now)))
+        (λ e. result ≡ Err e) }
 {
-    (Some(read.0), read.1)
+    let (stmt, rest) = read?;
+    Ok((Some(stmt), rest))
+}
+
+/// What a statement with a value does with it.
+#[derive(Clone, Copy)]
+enum Effect {
+    Yield,
+    Return,
+    Throw,
+    Cleanup,
+}
+
+fn found_effect(
+    effect: Effect,
+    read: Result<(Expr, &[Word]), Stop>,
+) -> Result<(Option<Stmt>, &[Word]), Stop>
+    ensures { MatchResult read.entry
+        (λ r. IsOkAnd result (λ x. (x.0 ≡ Some (effect_of effect r.0)) × (x.1.now ≡ r.1.now)))
+        (λ e. result ≡ Err e) }
+{
+    let (value, rest) = read?;
+    Ok((Some(effect_of(effect, value)), rest))
+}
+
+fn effect_of(effect: Effect, value: Expr) -> Stmt
+    ensures { result ≡ effect_of effect value }
+{
+    match effect {
+        Effect::Yield => Stmt::Yield(value),
+        Effect::Return => Stmt::Return(value),
+        Effect::Throw => Stmt::Throw(value),
+        Effect::Cleanup => Stmt::Cleanup(value),
+    }
 }
 
 /// The expression at the head of the words, with the `;` that ends it.
 fn ended(alloc: Global, words: &[Word], room: u8) -> Result<(Expr, &[Word]), Stop>
     ensures gives { Gives (λ x. (x.0, x.1.now)) result (ended (inside_of room) words.now) }
-    ensures shorter { IfOk result (λ x. length x.1.now ≤ length words.now) }
 {
     let (value, rest) = expr(alloc, words, room)?;
-    let rest = semicolon(rest)?;
-    Ok((value, rest))
+    both(value, semicolon(rest))
 }
 
 /// An assignment, behind its name.
@@ -101,7 +120,6 @@ fn assignment<'a>(
     room: u8,
 ) -> Result<(Stmt, &'a [Word]), Stop>
     ensures gives { Gives (λ x. (x.0, x.1.now)) result (assignment (inside_of room) name.now words.now) }
-    ensures shorter { IfOk result (λ x. length x.1.now ≤ length words.now) }
 {
     let rest = assign(words)?;
     let name = name.copy(alloc)?;
@@ -112,7 +130,6 @@ fn assignment<'a>(
 /// What stands behind `let`.
 fn let_stmt(alloc: Global, words: &[Word], room: u8) -> Result<(Stmt, &[Word]), Stop>
     ensures gives { Gives (λ x. (x.0, x.1.now)) result (let_stmt (inside_of room) words.now) }
-    ensures shorter { IfOk result (λ x. length x.1.now ≤ length words.now) }
 {
     let (name, rest) = name(alloc, words)?;
     let (value, rest) = ended(alloc, assign(rest)?, room)?;
@@ -123,7 +140,6 @@ fn let_stmt(alloc: Global, words: &[Word], room: u8) -> Result<(Stmt, &[Word]), 
 #[cycle(statements)]
 fn if_stmt(alloc: Global, words: &[Word], room: u8) -> Result<(Stmt, &[Word]), Stop>
     ensures gives { Gives (λ x. (x.0, x.1.now)) result (if_stmt (inside_of room) words.now) }
-    ensures shorter { IfOk result (λ x. length x.1.now ≤ length words.now) }
 {
     let (first, rest) = arm(alloc, words, room)?;
     let (arms, rest) = arms(alloc, first, rest, room)?;
@@ -135,10 +151,9 @@ fn if_stmt(alloc: Global, words: &[Word], room: u8) -> Result<(Stmt, &[Word]), S
 #[cycle(statements)]
 fn arm(alloc: Global, words: &[Word], room: u8) -> Result<(Arm, &[Word]), Stop>
     ensures gives { Gives (λ x. (x.0, x.1.now)) result (arm (inside_of room) words.now) }
-    ensures shorter { IfOk result (λ x. length x.1.now ≤ length words.now) }
 {
     let (test, rest) = bracketed(alloc, words, room)?;
-    let (body, rest) = block(alloc, rest, room)?;
+    let (test, (body, rest)) = both(test, block(alloc, rest, room))?;
     Ok((Arm { test, body }, rest))
 }
 
@@ -146,7 +161,6 @@ fn arm(alloc: Global, words: &[Word], room: u8) -> Result<(Arm, &[Word]), Stop>
 #[cycle(statements)]
 fn arms(alloc: Global, first: Arm, words: &[Word], room: u8) -> Result<(Items<Arm>, &[Word]), Stop>
     ensures gives { Gives (λ x. (x.0, x.1.now)) result (rounds (else_if (inside_of room)) (first ∷ []) words.now) }
-    ensures shorter { IfOk result (λ x. length x.1.now ≤ length words.now) }
 {
     let mut arms = Items::new(alloc);
     arms.push(first)?;
@@ -165,8 +179,6 @@ fn arms(alloc: Global, first: Arm, words: &[Word], room: u8) -> Result<(Items<Ar
 #[cycle(statements)]
 fn else_if(alloc: Global, words: &[Word], room: u8) -> Result<(Option<Arm>, &[Word]), Stop>
     ensures gives { Gives (λ x. (x.0, x.1.now)) result (else_if (inside_of room) words.now) }
-    ensures shorter { IfOk result (λ x. length x.1.now ≤ length words.now) }
-    ensures falls { IfOk result (λ x. IsSome x.0 → length x.1.now < length words.now) }
 {
     match words {
         [Word::Else, Word::If, rest @ ..] => {
@@ -181,7 +193,6 @@ fn else_if(alloc: Global, words: &[Word], room: u8) -> Result<(Option<Arm>, &[Wo
 #[cycle(statements)]
 fn otherwise(alloc: Global, words: &[Word], room: u8) -> Result<(Option<Block>, &[Word]), Stop>
     ensures gives { Gives (λ x. (x.0, x.1.now)) result (otherwise (inside_of room) words.now) }
-    ensures shorter { IfOk result (λ x. length x.1.now ≤ length words.now) }
 {
     match words {
         [Word::Else, rest @ ..] => {
@@ -196,7 +207,6 @@ fn otherwise(alloc: Global, words: &[Word], room: u8) -> Result<(Option<Block>, 
 #[cycle(statements)]
 fn while_stmt(alloc: Global, words: &[Word], room: u8) -> Result<(Stmt, &[Word]), Stop>
     ensures gives { Gives (λ x. (x.0, x.1.now)) result (while_stmt (inside_of room) words.now) }
-    ensures shorter { IfOk result (λ x. length x.1.now ≤ length words.now) }
 {
     let (arm, rest) = arm(alloc, words, room)?;
     Ok((Stmt::While(arm.test, arm.body), rest))
@@ -206,17 +216,15 @@ fn while_stmt(alloc: Global, words: &[Word], room: u8) -> Result<(Stmt, &[Word])
 #[cycle(statements)]
 fn for_stmt(alloc: Global, words: &[Word], room: u8) -> Result<(Stmt, &[Word]), Stop>
     ensures gives { Gives (λ x. (x.0, x.1.now)) result (for_stmt (inside_of room) words.now) }
-    ensures shorter { IfOk result (λ x. length x.1.now ≤ length words.now) }
 {
     let (name, list, rest) = each(alloc, words, room)?;
-    let (body, rest) = block(alloc, rest, room)?;
+    let (list, (body, rest)) = both(list, block(alloc, rest, room))?;
     Ok((Stmt::For(name, list, body), rest))
 }
 
 /// The name and the list of a `for`, in their brackets.
 fn each(alloc: Global, words: &[Word], room: u8) -> Result<(Text, Expr, &[Word]), Stop>
     ensures gives { Gives (λ x. ((x.0, x.1), x.2.now)) result (each (inside_of room) words.now) }
-    ensures shorter { IfOk result (λ x. length x.2.now ≤ length words.now) }
 {
     let [Word::OpenRound, rest @ ..] = words else {
         return Err(fault_at(words));
@@ -227,10 +235,9 @@ fn each(alloc: Global, words: &[Word], room: u8) -> Result<(Text, Expr, &[Word])
 /// The name and the list of a `for`, behind the opening bracket.
 fn each_of(alloc: Global, words: &[Word], room: u8) -> Result<(Text, Expr, &[Word]), Stop>
     ensures gives { Gives (λ x. ((x.0, x.1), x.2.now)) result (each_of (expr (inside_of room)) words.now) }
-    ensures shorter { IfOk result (λ x. length x.2.now ≤ length words.now) }
 {
     let (name, rest) = name(alloc, let_word(words)?)?;
     let (list, rest) = expr(alloc, of_word(rest)?, room)?;
-    let rest = close_round(rest)?;
+    let (list, rest) = both(list, close_round(rest))?;
     Ok((name, list, rest))
 }

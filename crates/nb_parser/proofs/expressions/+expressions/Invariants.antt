@@ -1,5 +1,5 @@
 -- What is left, from here, is the whole from the start; a bracket takes room, and within it the levels go down.
-use Rattle.std.proofs.Common.{◌≡◌, ◌≤◌, length, [], ◌∷◌, Ok, ◌+◌, ◌-◌, ◌*◌}
+use Rattle.std.proofs.Common.{◌≡◌, length, [], ◌∷◌, Ok, ◌+◌, ◌-◌, ◌*◌}
 use Rattle.nb_value.specs.Function.{arity}
 use Rattle.nb_syntax.specs.declared.tree.Expr.TheVariants as tree
 use Rattle.nb_grammar.specs.Words.{product_sign, sum_sign}
@@ -76,7 +76,6 @@ decreases-bracketed l = 32 * l.room + 6
 abbrev pub invariant-or_parts-parts : goal.invariant-or_parts-parts
 invariant-or_parts-parts l = record {
   same : rounds (or_part (inside_of l.room)) l.more l.rest ≡ rounds (or_part (inside_of l.room)) [] l.words;
-  within : length l.rest ≤ length l.words;
 }
 
 abbrev pub decreases-or_parts-parts : goal.decreases-or_parts-parts
@@ -85,7 +84,6 @@ decreases-or_parts-parts l = length l.rest
 abbrev pub invariant-and_parts-parts : goal.invariant-and_parts-parts
 invariant-and_parts-parts l = record {
   same : rounds (and_part (inside_of l.room)) l.more l.rest ≡ rounds (and_part (inside_of l.room)) [] l.words;
-  within : length l.rest ≤ length l.words;
 }
 
 abbrev pub decreases-and_parts-parts : goal.decreases-and_parts-parts
@@ -94,7 +92,6 @@ decreases-and_parts-parts l = length l.rest
 abbrev pub invariant-summands-operands : goal.invariant-summands-operands
 invariant-summands-operands l = record {
   same : rounds (operand sum_sign (product (inside_of l.room))) l.more l.rest ≡ rounds (operand sum_sign (product (inside_of l.room))) [] l.words;
-  within : length l.rest ≤ length l.words;
 }
 
 abbrev pub decreases-summands-operands : goal.decreases-summands-operands
@@ -103,7 +100,6 @@ decreases-summands-operands l = length l.rest
 abbrev pub invariant-factors-operands : goal.invariant-factors-operands
 invariant-factors-operands l = record {
   same : rounds (operand product_sign (unary (inside_of l.room))) l.more l.rest ≡ rounds (operand product_sign (unary (inside_of l.room))) [] l.words;
-  within : length l.rest ≤ length l.words;
 }
 
 abbrev pub decreases-factors-operands : goal.decreases-factors-operands
@@ -112,7 +108,6 @@ decreases-factors-operands l = length l.rest
 abbrev pub invariant-path_steps-turns : goal.invariant-path_steps-turns
 invariant-path_steps-turns l = record {
   same : rounds (step (inside_of l.room)) l.steps l.rest ≡ rounds (step (inside_of l.room)) [] l.words;
-  within : length l.rest ≤ length l.words;
 }
 
 abbrev pub decreases-path_steps-turns : goal.decreases-path_steps-turns
@@ -121,7 +116,6 @@ decreases-path_steps-turns l = length l.rest
 abbrev pub invariant-items-more : goal.invariant-items-more
 invariant-items-more l = record {
   left : Left (item (expr (inside_of l.room))) (λ m. close_square m.1 >>= (λ rest. Ok (tree.List m.0, rest))) l.items l.rest (items (expr (inside_of l.room)) l.words);
-  within : length l.rest ≤ length l.words;
 }
 
 abbrev pub decreases-items-more : goal.decreases-items-more
@@ -130,7 +124,6 @@ decreases-items-more l = length l.rest
 abbrev pub invariant-pairs-more : goal.invariant-pairs-more
 invariant-pairs-more l = record {
   left : Left (next_pair (expr (inside_of l.room))) (λ m. close_curly m.1 >>= (λ rest. Ok (tree.Rec m.0, rest))) l.pairs l.rest (pairs (expr (inside_of l.room)) l.words);
-  within : length l.rest ≤ length l.words;
 }
 
 abbrev pub decreases-pairs-more : goal.decreases-pairs-more
@@ -141,5 +134,4 @@ invariant-call-loop l = record {
   same : arguments (expr (inside_of l.room)) (l.end - l.counter) l.args l.rest
       >>= (λ m. close_round m.1 >>= (λ rest. Ok (tree.Call l.function m.0, rest)))
       ≡ call (expr (inside_of l.room)) l.function l.words;
-  within : length l.rest ≤ length l.words;
 }

@@ -1,5 +1,5 @@
 -- What is left, from here, is the whole from the start; a bracket takes room, and within it the levels go down.
-use Rattle.std.proofs.Common.{◌≡◌, ◌+◌, ◌*◌, ◌≤◌, length, [], ◌∷◌}
+use Rattle.std.proofs.Common.{◌≡◌, ◌+◌, ◌*◌, length, [], ◌∷◌}
 use Rattle.nb_grammar.specs.Reading.{rounds, else_if, next_stmt, inside_of}
 use Rattle.nb_parser.proofs.statements.+statements.Given as goal
 
@@ -36,7 +36,6 @@ decreases-block l = 8 * l.room + 2
 abbrev pub invariant-stmts-turns : goal.invariant-stmts-turns
 invariant-stmts-turns l = record {
   same : rounds (next_stmt (inside_of l.room)) l.stmts l.rest ≡ rounds (next_stmt (inside_of l.room)) [] l.words;
-  within : length l.rest ≤ length l.words;
 }
 
 abbrev pub decreases-stmts-turns : goal.decreases-stmts-turns
@@ -45,7 +44,6 @@ decreases-stmts-turns l = length l.rest
 abbrev pub invariant-arms-turns : goal.invariant-arms-turns
 invariant-arms-turns l = record {
   same : rounds (else_if (inside_of l.room)) l.arms l.rest ≡ rounds (else_if (inside_of l.room)) (l.fn.first ∷ []) l.words;
-  within : length l.rest ≤ length l.words;
 }
 
 abbrev pub decreases-arms-turns : goal.decreases-arms-turns
