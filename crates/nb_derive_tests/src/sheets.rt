@@ -97,7 +97,7 @@ fn plays(
 }
 
 /// A sheet without builtins.
-pub fn new_sheet(alloc: Global) -> Result<Sheet, AllocError> {
+pub(crate) fn new_sheet(alloc: Global) -> Result<Sheet, AllocError> {
     let builtins = Pairs::new(alloc);
     Sheet::new(alloc, builtins)
 }
