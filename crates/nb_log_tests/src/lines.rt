@@ -1,8 +1,7 @@
 //! What is read of lines, and which line is the first bad one, for which reason.
-use nb_lines::{BadReason, LineFail, ScriptLine, Scripts, line_number, read_lines};
+use nb_lines::{BadReason, LineFail, Scripts, line_number, read_lines};
 use nb_log::{Entry, Refusal, push_entries};
-use nb_parser::ParseError;
-use nb_value::Bytes;
+use nb_value::{Bytes, Tree};
 use std::alloc::Global;
 use std::mem::drop;
 use std::test::Fail;
@@ -90,43 +89,115 @@ const FAULTS: [(&str, u8, &str); 20] = [
     ("{\"x\":0}", 7, "do"),
     ("{\"do\":[],\"x\":0}", 8, "do"),
     ("{\"do\":\"Frame\",\"x\":0}", 5, ""),
-    ("{\"do\":\"frame\",\"x\":0,\"module\":0,\"editor\":8}", 6, "module"),
+    (
+        "{\"do\":\"frame\",\"x\":0,\"module\":0,\"editor\":8}",
+        6,
+        "module",
+    ),
     ("{\"do\":\"cell\",\"\":0,\"a\":0}", 6, ""),
     ("{\"do\":\"cell\",\"editor\":8}", 8, "editor"),
     ("{\"do\":\"frame\",\"editor\":-0}", 8, "editor"),
     ("{\"do\":\"cell\",\"cell\":\")\"}", 7, "module"),
-    ("{\"do\":\"cell\",\"module\":0.0,\"observed\":0}", 8, "module"),
+    (
+        "{\"do\":\"cell\",\"module\":0.0,\"observed\":0}",
+        8,
+        "module",
+    ),
     ("{\"do\":\"cell\",\"module\":4294967296}", 8, "module"),
     ("{\"do\":\"cell\",\"module\":0,\"observed\":0}", 7, "cell"),
-    ("{\"do\":\"cell\",\"module\":0,\"cell\":1,\"observed\":0}", 8, "cell"),
-    ("{\"do\":\"cell\",\"module\":0,\"cell\":\")\",\"observed\":0}", 8, "observed"),
+    (
+        "{\"do\":\"cell\",\"module\":0,\"cell\":1,\"observed\":0}",
+        8,
+        "cell",
+    ),
+    (
+        "{\"do\":\"cell\",\"module\":0,\"cell\":\")\",\"observed\":0}",
+        8,
+        "observed",
+    ),
     ("{\"do\":\"redefine\",\"module\":0,\"cell\":\"1\"}", 9, ""),
-    ("{\"do\":\"redefine\",\"module\":0,\"cell\":\"1 +\"}", 10, ""),
-    ("{\"do\":\"import\",\"variable\":1,\"name\":\"if\"}", 8, "name"),
+    (
+        "{\"do\":\"redefine\",\"module\":0,\"cell\":\"1 +\"}",
+        10,
+        "",
+    ),
+    (
+        "{\"do\":\"import\",\"variable\":1,\"name\":\"if\"}",
+        8,
+        "name",
+    ),
 ];
 
 // The same of imports, derives and settlements.
 const MORE_FAULTS: [(&str, u8, &str); 20] = [
-    ("{\"do\":\"import\",\"variable\":1,\"name\":\"a\",\"alias\":\"1\"}", 8, "alias"),
-    ("{\"do\":\"import\",\"variable\":1,\"name\":\"a\",\"alias\":null}", 8, "alias"),
-    ("{\"do\":\"import\",\"variable\":1,\"name\":\"a\",\"alias\":\"b\"}", 7, "from"),
+    (
+        "{\"do\":\"import\",\"variable\":1,\"name\":\"a\",\"alias\":\"1\"}",
+        8,
+        "alias",
+    ),
+    (
+        "{\"do\":\"import\",\"variable\":1,\"name\":\"a\",\"alias\":null}",
+        8,
+        "alias",
+    ),
+    (
+        "{\"do\":\"import\",\"variable\":1,\"name\":\"a\",\"alias\":\"b\"}",
+        7,
+        "from",
+    ),
     ("{\"do\":\"derive\",\"module\":0,\"source\":-1}", 7, "with"),
     ("{\"do\":\"derive\",\"module\":0,\"with\":{}}", 8, "with"),
-    ("{\"do\":\"derive\",\"module\":0,\"with\":[\"a\",\"b c\"]}", 8, "with"),
-    ("{\"do\":\"derive\",\"module\":0,\"with\":[{\"alias\":\"a\"}]}", 8, "with"),
-    ("{\"do\":\"derive\",\"module\":0,\"with\":[{\"name\":\"a\",\"as\":\"b\"}]}", 8, "with"),
-    ("{\"do\":\"derive\",\"module\":0,\"with\":[{\"name\":\"a\",\"alias\":0}]}", 8, "with"),
-    ("{\"do\":\"derive\",\"module\":0,\"with\":[\"a\"]}", 7, "source"),
+    (
+        "{\"do\":\"derive\",\"module\":0,\"with\":[\"a\",\"b c\"]}",
+        8,
+        "with",
+    ),
+    (
+        "{\"do\":\"derive\",\"module\":0,\"with\":[{\"alias\":\"a\"}]}",
+        8,
+        "with",
+    ),
+    (
+        "{\"do\":\"derive\",\"module\":0,\"with\":[{\"name\":\"a\",\"as\":\"b\"}]}",
+        8,
+        "with",
+    ),
+    (
+        "{\"do\":\"derive\",\"module\":0,\"with\":[{\"name\":\"a\",\"alias\":0}]}",
+        8,
+        "with",
+    ),
+    (
+        "{\"do\":\"derive\",\"module\":0,\"with\":[\"a\"]}",
+        7,
+        "source",
+    ),
     ("{\"do\":\"settle\",\"value\":0,\"error\":0}", 7, "ticket"),
     ("{\"do\":\"settle\",\"ticket\":-1,\"key\":0}", 8, "key"),
     ("{\"do\":\"settle\",\"ticket\":-1}", 7, "value"),
-    ("{\"do\":\"settle\",\"key\":0,\"value\":0.5,\"error\":0}", 8, "error"),
-    ("{\"do\":\"settle\",\"ticket\":-1,\"value\":0.5}", 8, "ticket"),
+    (
+        "{\"do\":\"settle\",\"key\":0,\"value\":0.5,\"error\":0}",
+        8,
+        "error",
+    ),
+    (
+        "{\"do\":\"settle\",\"ticket\":-1,\"value\":0.5}",
+        8,
+        "ticket",
+    ),
     ("{\"do\":\"settle\",\"key\":0,\"error\":0}", 8, "key"),
     ("{\"do\":\"settle\",\"key\":\"\",\"error\":0}", 8, "error"),
     ("{\"do\":\"settle\",\"key\":\"\",\"value\":0.5}", 8, "value"),
-    ("{\"do\":\"settle\",\"key\":\"\",\"value\":9223372036854775808}", 8, "value"),
-    ("{\"do\":\"settle\",\"ticket\":0,\"value\":0,\"with\":[]}", 6, "with"),
+    (
+        "{\"do\":\"settle\",\"key\":\"\",\"value\":9223372036854775808}",
+        8,
+        "value",
+    ),
+    (
+        "{\"do\":\"settle\",\"ticket\":0,\"value\":0,\"with\":[]}",
+        6,
+        "with",
+    ),
 ];
 
 // Inputs, with the number of the first bad line, or 0.
@@ -181,10 +252,16 @@ fn first_bad(alloc: Global, input: &[u8]) -> Result<u32, Fail> {
 fn tells_the_first_reason(rt: HostRuntime) -> Result<(), Fail> {
     let alloc = rt.alloc();
     for (line, number, key) in &FAULTS {
-        assert!(rt; is_refused(alloc, line.as_bytes(), 1, *number, key), "{line}");
+        assert!(rt;
+            is_refused(alloc, line.as_bytes(), 1, *number, key),
+            "{line}"
+        );
     }
     for (line, number, key) in &MORE_FAULTS {
-        assert!(rt; is_refused(alloc, line.as_bytes(), 1, *number, key), "{line}");
+        assert!(rt;
+            is_refused(alloc, line.as_bytes(), 1, *number, key),
+            "{line}"
+        );
     }
     for (input, bad) in &INPUTS {
         assert_eq!(rt; first_bad(alloc, input.as_bytes())?, *bad, "{input}");
@@ -214,8 +291,14 @@ fn are_too_many(alloc: Global, count: usize) -> Result<bool, Fail> {
 #[test]
 fn keeps_the_limits_of_lines(rt: HostRuntime) -> Result<(), Fail> {
     let alloc = rt.alloc();
-    assert_eq!(rt; [is_too_long(alloc, 65_536)?, is_too_long(alloc, 65_537)?], [false, true]);
-    assert_eq!(rt; [are_too_many(alloc, 65_536)?, are_too_many(alloc, 65_537)?], [false, true]);
+    assert_eq!(rt;
+        [is_too_long(alloc, 65_536)?, is_too_long(alloc, 65_537)?],
+        [false, true]
+    );
+    assert_eq!(rt;
+        [are_too_many(alloc, 65_536)?, are_too_many(alloc, 65_537)?],
+        [false, true]
+    );
     Ok(())
 }
 
@@ -232,23 +315,18 @@ fn counts_lines_that_say_something(rt: HostRuntime) -> Result<(), Fail> {
     Ok(())
 }
 
-// The entry of a line, were it refused.
-fn refused(line: ScriptLine) -> Entry {
-    Entry::Refused {
+// What the one line that was read is written as, were it refused.
+fn written(alloc: Global, scripts: &Scripts) -> Result<Bytes, Fail> {
+    let [line] = scripts.as_slice() else {
+        return Err("another number of lines".into());
+    };
+    let entry = Entry::Refused {
         editor: line.editor,
         reason: Refusal::Disposed,
-        event: line.event,
-    }
-}
-
-// What the one line that was read is written as.
-fn written(alloc: Global, scripts: Scripts) -> Result<Bytes, Fail> {
-    let mut text = Bytes::new(alloc);
-    let mut lines = scripts.into_vec();
-    let Some(line) = lines.pop() else {
-        return Err("no line".into());
+        event: line.event.copy(alloc)?,
     };
-    let pushed = push_entries(alloc, &mut text, &[refused(line)]);
+    let mut text = Bytes::new(alloc);
+    let pushed = push_entries(alloc, &mut text, &[entry]);
     pushed?;
     Ok(text)
 }
@@ -260,7 +338,9 @@ fn reads_each_form(rt: HostRuntime) -> Result<(), Fail> {
         let Ok(scripts) = read_lines(alloc, line.as_bytes()) else {
             return Err("refused".into());
         };
-        let text = written(alloc, scripts)?;
+        let text = written(alloc, &scripts);
+        drop(scripts);
+        let text = text?;
         let (editor, rest) = object.split_at(1);
         let wanted = format!(in alloc; "[\"refused\",{editor},20,\"Disposed\"{rest}]\n")?;
         assert_eq!(rt; text.as_slice(), wanted.as_bytes(), "{line}");

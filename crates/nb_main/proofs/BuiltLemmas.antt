@@ -1,5 +1,5 @@
 -- Lines none of which isn't built.
-use Rattle.std.proofs.Common.{◌≡◌, ◌<◌, ◌+◌, ℕ, option_map, subst, zero, suc, List, [], ◌∷◌, length, Option, Some, None, Bool, true, false, not, cond, ◌&&◌, nat_eq, refl, sym, ap, arith, All, slice_index_or}
+use Rattle.std.proofs.Common.{◌≡◌, ◌<◌, ◌+◌, ℕ, option_map, subst, zero, suc, List, [], ◌∷◌, length, Option, Some, None, Bool, true, false, not, cond, ◌&&◌, nat_eq, refl, sym, ap, ◌∙◌, arith, All}
 use Rattle.std.proofs.lemmas.Bool.{eqb-true}
 use Rattle.std.specs.List.{position_from}
 use Rattle.nb_syntax.specs.declared.tree.Cell.{Cell}
@@ -9,7 +9,8 @@ use Rattle.nb_sheet.specs.declared.edit.Edit.TheVariants.{AddModule, AddVariable
 use Rattle.nb_log.specs.declared.event.Event.{Event}
 use Rattle.nb_log.specs.declared.event.Event.TheVariants as event
 use Rattle.nb_lines.specs.declared.script.ScriptLine.{ScriptLine}
-use Rattle.nb_main.specs.Built.{adds_plain, is_plain_event, is_built, place_not_built, AddsCell, AllAddCells}
+use Rattle.nb_lines.specs.Lines.{scripts, line_number}
+use Rattle.nb_main.specs.Built.{adds_plain, is_plain_event, is_built, place_not_built, first_not_built, AllAddCells}
 
 abbrev Added : Event → Type 0
 Added e = (cell : Cell) × (e ≡ event.Edit (AddCell 0 cell true)) × (is_plain cell ≡ true)
@@ -55,10 +56,14 @@ all_from (s ∷ ss) n none low =
       all_from ss (n + 1) more (λ k d below. low (suc k) d (omega (arith, below))),
     )
 
-pub all_built : (ss : List ScriptLine) → place_not_built ss ≡ None → All (λ s. s.editor < 8) ss → AllAddCells ss
+all_built : (ss : List ScriptLine) → place_not_built ss ≡ None → All (λ s. s.editor < 8) ss → AllAddCells ss
 all_built ss none low = all_from ss 0 none low
 
+none_there : (f : ℕ → ℕ) (o : Option ℕ) → option_map f o ≡ None → o ≡ None
+none_there f None e = refl
+none_there f (Some n) e = cc
+
 -- as the bytes have it
-pub none_there : (bytes : List ℕ) (f : ℕ → ℕ) (o : Option ℕ) → option_map f o ≡ None → o ≡ None
-none_there bytes f None e = refl
-none_there bytes f (Some n) e = cc
+pub runs : (bytes : List ℕ) (ss : List ScriptLine) → ss ≡ scripts bytes → first_not_built bytes ≡ None → All (λ s. s.editor < 8) ss → AllAddCells ss
+unfolding first_not_built
+runs bytes ss is none low = all_built ss (ap place_not_built is ∙ none_there (line_number bytes) (place_not_built (scripts bytes)) none) low

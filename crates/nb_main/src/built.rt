@@ -37,11 +37,13 @@ fn is_built(line: &ScriptLine) -> bool
     ensures { result ≡ is_built line.now }
 {
     match &line.event {
-        Event::Edit(Edit::AddCell {
-            module: within,
-            cell,
-            observed,
-        }) => *within == 0 && *observed && is_plain(cell),
+        Event::Edit(
+            Edit::AddCell {
+                module: within,
+                cell,
+                observed,
+            },
+        ) => *within == 0 && *observed && is_plain(cell),
         _ => false,
     }
 }

@@ -49,9 +49,8 @@ pub fn without_words<E: Sink>(notes: &mut E) -> Status
     ensures status { result ≡ Status.Memory }
     ensures notes { Notes (note result) (E.written notes.old) (E.written notes.new) (E.faults notes.old) (E.faults notes.new) }
 {
-    let status = Status::Memory;
-    let _ = tell(notes, &status);
-    status
+    let _ = tell(notes, &Status::Memory);
+    Status::Memory
 }
 
 fn run<S: Source, K: Sink>(alloc: Global, words: &Words, input: &mut S, out: &mut K) -> Status

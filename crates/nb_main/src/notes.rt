@@ -60,10 +60,7 @@ fn write_reason<'t, E: Sink>(
     ensures writes { WritesAll (reason_line line.now word.now key.now) (E.written notes.old) (E.written notes.new) result }
     ensures cause { HasCause (E.faults notes.old) (E.faults notes.new) result }
 {
-    write_pieces(
-        notes,
-        &[b"notebook: line ", line, b": ", word, key, b"\n"],
-    )
+    write_pieces(notes, &[b"notebook: line ", line, b": ", word, key, b"\n"])
 }
 
 /// Writes that the cell of a line, whose number has these digits, is none, and why.
