@@ -1,6 +1,6 @@
 -- The event of an added observed cell: when it is refused, and what it leaves.
 use Rattle.std.proofs.Common.{inl, inr, ℕ, ◌≡◌, ◌+◌, ◌-◌, ◌<◌, ◌≤◌, refl, sym, ◌∙◌, ap, subst, Bool, true, List, [], ◌∷◌, ◌++◌, length, length-append, replicate, arith, Option, Some, None, option_map}
-use Rattle.std.proofs.lemmas.Bool.{cases_lt, le-ltb, lt-ltb, le-leb}
+use Rattle.std.proofs.lemmas.Bool.{le-ltb, lt-ltb}
 use Rattle.std.proofs.lemmas.Option.{none-some}
 use Rattle.nb_value.specs.declared.value.Value.{Value}
 use Rattle.nb_value.specs.declared.pairs.Field.{Field}
@@ -14,9 +14,8 @@ use Rattle.nb_log.specs.declared.event.Event.TheVariants.{Edit as EditEvent}
 use Rattle.nb_log.specs.declared.entry.Refusal.{Refusal}
 use Rattle.nb_log.specs.declared.entry.Refusal.TheVariants.{LogFull}
 use Rattle.nb_log.specs.Refused.{refusal_of}
-use Rattle.nb_sheet.specs.Sheet.{refusal, where_true}
+use Rattle.nb_sheet.specs.Sheet.{refusal}
 use Rattle.nb_sheet.specs.declared.refused.Refused.{Refused as SheetRefused}
-use Rattle.nb_sheet.specs.declared.refused.Refused.TheVariants.{TooManyVariables}
 use Rattle.nb_log.specs.declared.entry.Entry.{Entry}
 use Rattle.nb_log.specs.declared.entry.Entry.TheVariants.{Edit, Refused}
 use Rattle.nb_sheet.specs.Lists.{from_option, or_else}

@@ -4,7 +4,7 @@ use Rattle.nb_value.specs.declared.value.Value.{Value}
 use Rattle.nb_value.specs.declared.pairs.Field.{Field}
 use Rattle.nb_log.specs.declared.event.Event.{Event}
 use Rattle.nb_log.specs.declared.entry.Entry.{Entry}
-use Rattle.nb_sheet.specs.Lists.{Name, numbers}
+use Rattle.nb_sheet.specs.Lists.{numbers}
 use Rattle.nb_history.specs.Reading.{Reading}
 use Rattle.nb_history.specs.Rules.{ready, next}
 use Rattle.nb_history.specs.Log.{reading, nothing_yet, read_from, after, admit}

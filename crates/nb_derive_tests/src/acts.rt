@@ -24,6 +24,7 @@ pub enum Act {
 }
 
 /// What a body is: the text of a cell, a name of a module, or none.
+#[derive(Clone, Copy)]
 pub enum Is {
     Cell(&'static str),
     From(&'static str, u32),
@@ -64,7 +65,7 @@ fn specifier(alloc: Global, name: &str, alias: &str) -> Result<Specifier, AllocE
 }
 
 /// The specifiers of these names and aliases.
-pub fn specifiers(alloc: Global, pairs: &[(&str, &str)]) -> Result<Specifiers, AllocError> {
+pub(crate) fn specifiers(alloc: Global, pairs: &[(&str, &str)]) -> Result<Specifiers, AllocError> {
     let mut list = Items::new(alloc);
     for (name, alias) in pairs {
         list.push(specifier(alloc, *name, *alias)?)?;
@@ -103,7 +104,7 @@ fn take(alloc: Global, sheet: &mut Sheet, edit: &Edit, place: u64) -> Result<u32
 }
 
 /// 0 where the edit is done, and otherwise the number of the reason against it.
-pub fn answer(alloc: Global, sheet: &mut Sheet, act: Act, place: u64) -> Result<u32, Fail> {
+pub(crate) fn answer(alloc: Global, sheet: &mut Sheet, act: Act, place: u64) -> Result<u32, Fail> {
     let edit = edit_of(alloc, act)?;
     let answer = take(alloc, sheet, &edit, place);
     drop(edit);
@@ -111,7 +112,7 @@ pub fn answer(alloc: Global, sheet: &mut Sheet, act: Act, place: u64) -> Result<
 }
 
 /// Whether all edits are done, each at the place of its number.
-pub fn all_done(alloc: Global, sheet: &mut Sheet, acts: &[Act]) -> Result<bool, Fail> {
+pub(crate) fn all_done(alloc: Global, sheet: &mut Sheet, acts: &[Act]) -> Result<bool, Fail> {
     for (i, act) in acts.iter().enumerate() {
         if answer(alloc, sheet, *act, i as u64 + 1)? != 0 {
             return Ok(false);
@@ -121,7 +122,7 @@ pub fn all_done(alloc: Global, sheet: &mut Sheet, acts: &[Act]) -> Result<bool, 
 }
 
 /// Whether a body is this one.
-pub fn is_body(alloc: Global, body: &BodyOf, wanted: &Is) -> Result<bool, AllocError> {
+pub(crate) fn is_body(alloc: Global, body: &BodyOf, wanted: &Is) -> Result<bool, AllocError> {
     match (body, wanted) {
         (BodyOf::Cell(cell), Is::Cell(text)) => Ok(print(alloc, cell)?.as_str() == *text),
         (BodyOf::Import { name, from }, Is::From(remote, module)) => {
@@ -176,7 +177,7 @@ fn are_made(sheet: &Sheet, made: &[bool]) -> bool {
 }
 
 /// Whether the sheet has just these rows, and for each module whether a derive made it.
-pub fn stands(
+pub(crate) fn stands(
     alloc: Global,
     sheet: &Sheet,
     rows: &[Row],

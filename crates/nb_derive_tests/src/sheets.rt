@@ -2,7 +2,7 @@
 use crate::acts::{Act, Is, Row, all_done, is_body, specifiers, stands};
 use nb_derive::derived;
 use nb_resolve::{Resolution, inputs};
-use nb_sheet::{NewModule, Sheet};
+use nb_sheet::{NewModule, NewVar, Sheet};
 use nb_value::Pairs;
 use std::alloc::{AllocError, Global};
 use std::mem::drop;
@@ -97,7 +97,7 @@ fn plays(
 }
 
 /// A sheet without builtins.
-pub fn new_sheet(alloc: Global) -> Result<Sheet, AllocError> {
+pub(crate) fn new_sheet(alloc: Global) -> Result<Sheet, AllocError> {
     let builtins = Pairs::new(alloc);
     Sheet::new(alloc, builtins)
 }
@@ -126,24 +126,25 @@ fn derived_modules_come_out(rt: HostRuntime) -> Result<(), Fail> {
     Ok(())
 }
 
-// Whether they are one module, whose b is an import of a from module 1, and whose c is the cell.
-fn are_copies(alloc: Global, copies: &[NewModule]) -> Result<bool, AllocError> {
-    let wanted = [("b", Is::From("a", 1)), ("c", Is::Cell("c = b * 10"))];
-    for copy in copies {
-        let variables = copy.variables.as_slice();
-        for (new, (name, is)) in variables.iter().zip(wanted.iter()) {
-            if new.name.as_str() != *name || !is_body(alloc, &new.body, is)? {
-                return Ok(false);
-            }
-        }
-        if variables.len() != 2 {
+// The copies of a derive of module 0, with a of module 1 as b.
+const COPIES: &[(&str, Is)] = &[("b", Is::From("a", 1)), ("c", Is::Cell("c = b * 10"))];
+
+fn are_variables(alloc: Global, variables: &[NewVar]) -> Result<bool, AllocError> {
+    for (new, (name, is)) in variables.iter().zip(COPIES.iter()) {
+        if new.name.as_str() != *name || !is_body(alloc, &new.body, is)? {
             return Ok(false);
         }
     }
-    Ok(copies.len() == 1)
+    Ok(variables.len() == COPIES.len())
 }
 
-// Whether the copies of module 0, with a of module 1 as b, are as they should be.
+fn are_copies(alloc: Global, copies: &[NewModule]) -> Result<bool, AllocError> {
+    match copies.first() {
+        Some(copy) => Ok(are_variables(alloc, copy.variables.as_slice())? && copies.len() == 1),
+        None => Ok(false),
+    }
+}
+
 fn copies_come_out(alloc: Global, sheet: &Sheet) -> Result<bool, AllocError> {
     if sheet.modules() < 2 {
         return Ok(false);

@@ -1,5 +1,5 @@
 -- Worked answers of loaders.
-use Rattle.std.specs.Prelude.{ℕ, ℤ, pos, negsuc, ◌≡◌, refl, List, [], codes, Result}
+use Rattle.std.specs.Prelude.{ℕ, ℤ, pos, negsuc, refl, List, [], codes, Result}
 use Rattle.std.specs.declared.result.Result.TheVariants.{Ok, Err}
 use Rattle.std.specs.Fmt.{digits}
 use Rattle.nb_value.specs.declared.outcome.Answer.{Answer}

@@ -1,5 +1,5 @@
 -- The log as it is printed: each entry is a value, whose compact JSON is its line.
-use Rattle.std.specs.Prelude.{ℕ, ◌+◌, Bool, true, false, List, [], ◌∷◌, ◌++◌, map, codes, pos, Option, Some, None}
+use Rattle.std.specs.Prelude.{ℕ, List, [], ◌∷◌, ◌++◌, map, codes, pos, Option, Some, None}
 use Rattle.nb_value.specs.declared.value.Value.{Value}
 use Rattle.nb_value.specs.declared.value.Value.TheVariants as V
 use Rattle.nb_value.specs.declared.pairs.Field.{Field}
@@ -13,7 +13,6 @@ use Rattle.nb_value.specs.declared.outcome.Answer.TheVariants.{Value as Given, F
 use Rattle.nb_value.specs.Value.{size}
 use Rattle.nb_value.specs.Json.{json_text}
 use Rattle.nb_syntax.specs.Print.{cell_text}
-use Rattle.nb_syntax.specs.declared.tree.Cell.{Cell}
 use Rattle.nb_sheet.specs.declared.edit.Edit.{Edit}
 use Rattle.nb_sheet.specs.declared.edit.Edit.TheVariants.{AddModule, AddVariable, AddCell, Define, Import, Delete, Redefine, Derive}
 use Rattle.nb_sheet.specs.declared.edit.Specifier.{Specifier}

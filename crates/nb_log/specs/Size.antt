@@ -1,13 +1,12 @@
 -- The size of a log, and the places of its entries.
 use Rattle.std.specs.Prelude.{ℕ, ◌+◌, ◌-◌, ◌==◌, List, length, sum_by, slice_get, Option, None, if◌then◌else◌}
-use Rattle.nb_value.specs.declared.outcome.Answer.{Answer}
 use Rattle.nb_value.specs.declared.value.Value.{Value}
 use Rattle.nb_value.specs.declared.pairs.Field.{Field}
 use Rattle.nb_value.specs.Value.{size}
 use Rattle.nb_log.specs.declared.event.Target.{Target}
 use Rattle.nb_log.specs.declared.event.Target.TheVariants.{Ticket, Key}
 use Rattle.nb_log.specs.declared.entry.Entry.{Entry}
-use Rattle.nb_log.specs.Printing.{answer_field, entry_size}
+use Rattle.nb_log.specs.Printing.{entry_size}
 
 -- what a field takes
 abbrev pub field_size : Field Value → ℕ

@@ -2,13 +2,14 @@
 use nb_log::{
     Entry, Event, Log, Refusal, Target, entry_size, push_done_line, push_entries, push_table_line,
 };
+use nb_sheet::{Edit, Specifier};
 use nb_value::{Answer, Bytes, CellError, ErrorKind, Items, Outcome, Text, Tree, Value};
 use std::alloc::{AllocError, Global};
 use std::mem::drop;
 use std::test::Fail;
 
 const TEXT: &str =
-    "[\"frame\",1]\n[\"pending\",1,[]]\n[\"fulfilled\",1,3]\n[\"rejected\",1,\"NotDefined\",\"x\",null]\n[\"refused\",0,22,\"NoTicket\",{\"do\":\"settle\",\"ticket\":18446744073709551615,\"value\":null}]\n[\"value\",1,\"x\",\"fulfilled\",3]\n[\"done\",5]\n";
+    "[\"frame\",1]\n[\"pending\",1,[]]\n[\"fulfilled\",1,3]\n[\"rejected\",1,\"NotDefined\",\"x\",null]\n[\"refused\",0,22,\"NoTicket\",{\"do\":\"settle\",\"ticket\":18446744073709551615,\"value\":null}]\n[\"edit\",2,{\"do\":\"derive\",\"module\":0,\"source\":1,\"with\":[{\"alias\":\"b\",\"name\":\"a\"},{\"alias\":\"c\",\"name\":\"c\"}]}]\n[\"value\",1,\"x\",\"fulfilled\",3]\n[\"done\",6]\n";
 
 // A settlement of a ticket that no value holds.
 fn settlement() -> Event {
@@ -18,7 +19,26 @@ fn settlement() -> Event {
     }
 }
 
+fn specifier(alloc: Global, name: &str, alias: &str) -> Result<Specifier, AllocError> {
+    let name = Text::from_str(alloc, name)?;
+    let alias = Text::from_str(alloc, alias)?;
+    Ok(Specifier { name, alias })
+}
+
+// A derive of module 0 with a of module 1 as b, and c.
+fn derive(alloc: Global) -> Result<Edit, AllocError> {
+    let mut specifiers = Items::new(alloc);
+    specifiers.push(specifier(alloc, "a", "b")?)?;
+    specifiers.push(specifier(alloc, "c", "c")?)?;
+    Ok(Edit::Derive {
+        module: 0,
+        with: specifiers,
+        source: 1,
+    })
+}
+
 fn entries(alloc: Global) -> Result<Vec<Entry>, AllocError> {
+    let edit = derive(alloc)?;
     let error = CellError {
         kind: ErrorKind::NotDefined,
         detail: Text::from_str(alloc, "x")?,
@@ -41,6 +61,7 @@ fn entries(alloc: Global) -> Result<Vec<Entry>, AllocError> {
                 reason: Refusal::NoTicket,
                 event: settlement(),
             },
+            Entry::Edit { editor: 2, edit },
         ],
     )?)
 }
@@ -85,10 +106,11 @@ fn keeps_and_prints(rt: HostRuntime) -> Result<(), Fail> {
         size_at(&log, 3),
         size_at(&log, 4),
         size_at(&log, 5),
+        size_at(&log, 6),
         log.size(),
     ];
     drop(log);
-    assert_eq!(rt; sizes, [0, 8, 11, 13, 25, 46, 103]);
+    assert_eq!(rt; sizes, [0, 8, 11, 13, 25, 46, 72, 175]);
     assert!(rt; text?.as_slice() == TEXT.as_bytes());
     Ok(())
 }
@@ -98,11 +120,16 @@ fn is_copied(alloc: Global, event: &Event) -> Result<bool, AllocError> {
     Ok(copy.same(event))
 }
 
-#[test]
-fn copies_an_event(rt: HostRuntime) -> Result<(), Fail> {
-    let event = settlement();
-    let copied = is_copied(rt.alloc(), &event);
+// Whether a copy of the event is the same, and the event is let go of.
+fn copies(alloc: Global, event: Event) -> Result<bool, AllocError> {
+    let copied = is_copied(alloc, &event);
     drop(event);
-    assert!(rt; copied?);
+    copied
+}
+
+#[test]
+fn copies_events(rt: HostRuntime) -> Result<(), Fail> {
+    assert!(rt; copies(rt.alloc(), settlement())?);
+    assert!(rt; copies(rt.alloc(), Event::Edit(derive(rt.alloc())?))?);
     Ok(())
 }

@@ -1,8 +1,8 @@
 -- What a sheet keeps when its rows change.
-use Rattle.std.proofs.Common.{inl, inr, ℕ, zero, suc, ◌≡◌, ◌+◌, ◌-◌, ◌<◌, ◌≤◌, refl, sym, ◌∙◌, ap, subst, Bool, true, false, ◌&&◌, ◌||◌, not, List, [], ◌∷◌, ◌++◌, length, set, take, arith, Option, Some, None}
+use Rattle.std.proofs.Common.{inl, inr, ℕ, zero, suc, ◌≡◌, ◌+◌, ◌<◌, ◌≤◌, refl, sym, ◌∙◌, ap, subst, Bool, true, false, ◌&&◌, ◌||◌, not, List, [], ◌∷◌, ◌++◌, length, set, arith, Option, Some, None}
 use Rattle.std.proofs.lemmas.Bool.{cases_Bool, ltb-true, lt-ltb, ltb-false}
 use Rattle.std.proofs.lemmas.List.{length_push}
-use Rattle.std.specs.Prelude.{nat_le, nat_lt, slice_get, is_some}
+use Rattle.std.specs.Prelude.{nat_lt, slice_get, is_some}
 use Rattle.std.specs.List.{list_all}
 use Rattle.std.specs.Prelude.{Result, Ok, Err, OnOk, OnErr}
 use Rattle.nb_value.specs.declared.pairs.Field.{Field}
@@ -14,7 +14,7 @@ use Rattle.nb_sheet.specs.declared.row.BodyOf.TheVariants.{Cell as CellBody, Imp
 use Rattle.nb_sheet.specs.declared.row.VarRow.{VarRow}
 use Rattle.nb_sheet.specs.declared.refused.Refused.TheVariants.{TooManyModules}
 use Rattle.nb_sheet.specs.Lists.{Name, nth, put, from_option}
-use Rattle.nb_sheet.specs.Sheet.{Sheet, IsSheet, is_body, is_row, where_true, defined_by, undefined, too_many_modules}
+use Rattle.nb_sheet.specs.Sheet.{Sheet, IsSheet, is_body, is_row, defined_by, undefined, too_many_modules}
 use Rattle.nb_sheet.specs.Scan.{changed, redefined_by}
 
 less_more : (a m n : ℕ) → m ≤ n → nat_lt a m ≡ true → nat_lt a n ≡ true

@@ -1,6 +1,6 @@
 -- What a sheet with its mark keeps.
-use Rattle.std.proofs.Common.{ℕ, ◌≡◌, ◌+◌, ◌≤◌, refl, sym, ◌∙◌, ap, subst, Bool, List, [], ◌∷◌, ◌++◌, length, set, take, arith}
-use Rattle.std.proofs.lemmas.List.{length-take-le, length-set, take_all, take-take}
+use Rattle.std.proofs.Common.{ℕ, ◌≡◌, ◌≤◌, refl, sym, ◌∙◌, ap, subst, List, [], ◌∷◌, length, take, arith}
+use Rattle.std.proofs.lemmas.List.{length-take-le, length-set, take_all}
 use Rattle.nb_value.specs.declared.pairs.Field.{Field}
 use Rattle.nb_value.specs.declared.value.Value.{Value}
 use Rattle.nb_sheet.specs.declared.row.VarRow.{VarRow}

@@ -4,7 +4,6 @@ use Rattle.nb_syntax.specs.declared.tree.Cell.{Cell}
 use Rattle.nb_syntax.specs.declared.tree.Body.TheVariants as body
 use Rattle.nb_syntax.specs.declared.tree.Expr.{Expr}
 use Rattle.nb_syntax.specs.declared.tree.Expr.TheVariants as expr
-use Rattle.nb_syntax.specs.declared.tree.Operand.{Operand}
 use Rattle.nb_syntax.specs.declared.tree.Sign.TheVariants.{Plus, Times}
 use Rattle.nb_sheet.specs.Lists.{Name}
 use Rattle.nb_sheet.specs.declared.row.BodyOf.{BodyOf}
@@ -12,7 +11,6 @@ use Rattle.nb_sheet.specs.declared.row.BodyOf.TheVariants.{Cell as CellBody, Imp
 use Rattle.nb_sheet.specs.declared.row.VarRow.{VarRow}
 use Rattle.nb_sheet.specs.declared.edit.Edit.{Edit}
 use Rattle.nb_sheet.specs.declared.edit.Edit.TheVariants.{AddModule, AddVariable, AddCell, Import, Redefine, Derive}
-use Rattle.nb_sheet.specs.declared.edit.Specifier.{Specifier}
 use Rattle.nb_sheet.specs.Sheet.{Sheet, empty_sheet, refusal, edited_sheet}
 
 -- the sheet after the edits, none of which is refused

@@ -1,5 +1,5 @@
 -- The sheet: modules, variables and what an edit makes of them.
-use Rattle.std.specs.Prelude.{ℕ, ◌+◌, Bool, true, false, ◌&&◌, ◌||◌, not, ◌==◌, ◌≡◌, ◌≤◌, ◌<◌, ⊤, Result, Ok, Err, nat_le, nat_lt, List, [], ◌∷◌, ◌++◌, length, map, take, Option, Some, None, is_some}
+use Rattle.std.specs.Prelude.{ℕ, ◌+◌, Bool, true, false, ◌&&◌, ◌||◌, not, ◌==◌, ◌≡◌, ◌≤◌, ◌<◌, ⊤, Result, Ok, Err, nat_le, nat_lt, List, [], ◌∷◌, ◌++◌, length, map, Option, Some, None, is_some}
 use Rattle.std.specs.List.{list_all}
 use Rattle.nb_sheet.specs.Lists.{nth, put, numbers_where, Name, is_name, or_else, from_option}
 use Rattle.nb_sheet.specs.Derive.{Modules, derived, rows_of, variables_of}

@@ -73,10 +73,8 @@ pub fn roll_back(rows: &mut Vec<VarRow>, changes: &mut Vec<Change>)
     ensures rows { rows.new.items ≡ put_back changes.old.items rows.old.items }
     ensures changes { changes.new.items ≡ [] }
 {
-    while changes.len() > 0 {
-        if let Some(change) = changes.pop() {
-            put_back_one(rows, change);
-        }
+    while let Some(change) = changes.pop() {
+        put_back_one(rows, change);
     }
 }
 

@@ -1,8 +1,10 @@
 //! Copies of edits and bodies, and whether two are one.
 
-use crate::edit::{Edit, Specifier};
+ghost use Rattle.std.specs.Prelude.{◌≡◌, ◌↔◌, IsTrue};
+
+use crate::edit::{Edit, Specifier, Specifiers};
 use crate::row::BodyOf;
-use nb_value::Tree;
+use nb_value::{Text, Tree};
 use std::alloc::{AllocError, Global};
 
 impl Tree for BodyOf {
@@ -37,6 +39,35 @@ impl Tree for Specifier {
 
     fn same(&self, other: &Specifier) -> bool {
         self.name.same(&other.name) && self.alias.same(&other.alias)
+    }
+}
+
+/// Whether an edit is this import.
+fn is_import(edit: &Edit, v: u32, remote: &Text, own: &Text, k: u32) -> bool
+    ensures { IsTrue result ↔ (edit.now ≡ Edit.Import v remote.now own.now k) }
+{
+    match edit {
+        Edit::Import {
+            variable,
+            name,
+            alias,
+            from,
+        } => *variable == v && *from == k && name.same(remote) && alias.same(own),
+        _ => false,
+    }
+}
+
+/// Whether an edit is this derive.
+fn is_derive(edit: &Edit, within: u32, specifiers: &Specifiers, from: u32) -> bool
+    ensures { IsTrue result ↔ (edit.now ≡ Edit.Derive within specifiers.now from) }
+{
+    match edit {
+        Edit::Derive {
+            module,
+            with,
+            source,
+        } => *module == within && *source == from && with.same(specifiers),
+        _ => false,
     }
 }
 
@@ -128,34 +159,25 @@ impl Tree for Edit {
             ) => { *v == *w && a.same(b) }
             (
                 Edit::Import {
-                    variable: v,
-                    name: a,
-                    alias: c,
-                    from: m,
+                    variable,
+                    name,
+                    alias,
+                    from,
                 },
-                Edit::Import {
-                    variable: w,
-                    name: b,
-                    alias: d,
-                    from: n,
-                },
-            ) => *v == *w && *m == *n && a.same(b) && c.same(d),
+                other,
+            ) => is_import(other, *variable, name, alias, *from),
             (Edit::Delete { variable: v }, Edit::Delete { variable: w }) => *v == *w,
             (Edit::Redefine { module: m, cell: a }, Edit::Redefine { module: n, cell: b }) => {
                 *m == *n && a.same(b)
             }
             (
                 Edit::Derive {
-                    module: m,
-                    with: a,
-                    source: s,
+                    module,
+                    with,
+                    source,
                 },
-                Edit::Derive {
-                    module: n,
-                    with: b,
-                    source: t,
-                },
-            ) => *m == *n && *s == *t && a.same(b),
+                other,
+            ) => is_derive(other, *module, with, *source),
             _ => false,
         }
     }

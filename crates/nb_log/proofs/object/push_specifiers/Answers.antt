@@ -1,5 +1,5 @@
 -- The array, with no specifier and with some.
-use Rattle.std.proofs.Common.{◌≡◌, ◌∙◌, ◌++◌, List, ℕ, sym, ap}
+use Rattle.std.proofs.Common.{◌∙◌, ◌++◌, List, ℕ, sym, ap}
 use Rattle.std.proofs.lemmas.Result.{on_ok_weaker}
 use Rattle.nb_log.proofs.ObjectLemmas.{no_specifiers}
 use Rattle.nb_log.proofs.object.push_specifiers.Goals as goal

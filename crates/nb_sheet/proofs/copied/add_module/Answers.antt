@@ -1,4 +1,4 @@
-use Rattle.std.proofs.Common.{◌≡◌, ◌∙◌, sym, ap, subst, length, List, ℕ, false, arith, ◌<◌}
+use Rattle.std.proofs.Common.{◌∙◌, sym, ap, subst, length, arith, ◌<◌}
 use Rattle.nb_sheet.specs.Derive.{AreModules, has_number}
 use Rattle.nb_sheet.proofs.Walk.{modules_push, modules_few}
 use Rattle.nb_sheet.proofs.copied.add_module.Goals as goal

@@ -1,4 +1,4 @@
-use Rattle.std.proofs.Common.{◌≡◌, ◌<◌, ◌+◌, ◌-◌, ◌∙◌, refl, sym, ap, subst, length, List, ℕ, Some, None, arith}
+use Rattle.std.proofs.Common.{◌≡◌, ◌<◌, ◌+◌, ◌-◌, ◌∙◌, sym, ap, subst, length, List, ℕ, arith}
 use Rattle.std.specs.Prelude.{slice_get}
 use Rattle.nb_sheet.specs.Derive.{AreModules, walk, copied_of, copied_modules}
 use Rattle.nb_sheet.proofs.Walk.{modules_one, walk_more, walk_past}

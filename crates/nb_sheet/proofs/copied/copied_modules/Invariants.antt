@@ -1,4 +1,4 @@
-use Rattle.std.proofs.Common.{◌≡◌, ◌-◌, ◌≤◌, length}
+use Rattle.std.proofs.Common.{◌≡◌, ◌-◌, length}
 use Rattle.nb_sheet.specs.Derive.{AreModules, walk, copied_of, copied_modules}
 use Rattle.nb_sheet.proofs.copied.copied_modules.Given as goal
 

@@ -4,10 +4,10 @@ use Rattle.nb_sheet.specs.Changes.{put_back}
 use Rattle.nb_sheet.proofs.Back.{back_append}
 use Rattle.nb_sheet.proofs.rows.roll_back.Goals as goal
 
-pub loop-changes-preserved-in-Some : goal.loop-changes-preserved-in-Some
-loop-changes-preserved-in-Some c =
-    let rows = c.loop-changes.rows.items in
+pub loop-change-preserved : goal.loop-change-preserved
+loop-change-preserved c =
+    let rows = c.loop-change.rows.items in
     ap (put_back c.pop.new.self.items) c.put_back_one.ensures
     ∙ sym (back_append c.pop.new.self.items (c.in-Some.change ∷ []) rows)
     ∙ ap (λ (l : List Change). put_back l rows) (sym c.in-Some.ensures.items)
-    ∙ c.loop-changes.invariant
+    ∙ c.loop-change.invariant

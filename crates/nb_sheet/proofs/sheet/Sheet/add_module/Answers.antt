@@ -1,8 +1,7 @@
-use Rattle.std.proofs.Common.{◌≡◌, ◌∙◌, ◌≤◌, refl, ap, subst, false, List, [], ◌∷◌, ◌++◌, length, take, arith}
+use Rattle.std.proofs.Common.{◌≡◌, ◌∙◌, refl, ap, false, [], ◌∷◌, ◌++◌, length, take, arith}
 use Rattle.std.proofs.lemmas.List.{length_push, take-append-le}
-use Rattle.nb_sheet.specs.Sheet.{Sheet, IsSheet, refusal}
+use Rattle.nb_sheet.specs.Sheet.{Sheet, refusal}
 use Rattle.nb_sheet.specs.Kept.{Kept}
-use Rattle.nb_sheet.specs.Derive.{Modules}
 use Rattle.nb_sheet.specs.declared.edit.Edit.TheVariants.{AddModule}
 use Rattle.nb_sheet.proofs.Keeps.{wider, is_sheet}
 use Rattle.nb_sheet.proofs.Marks.{kept_on}

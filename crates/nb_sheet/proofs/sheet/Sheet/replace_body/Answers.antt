@@ -1,6 +1,4 @@
-use Rattle.std.proofs.Common.{◌∙◌, ap, Some}
 use Rattle.nb_sheet.specs.Sheet.{Sheet}
-use Rattle.nb_sheet.specs.Kept.{Kept}
 use Rattle.nb_sheet.proofs.Keeps.{either, unchanged, redefined_keeps}
 use Rattle.nb_sheet.proofs.Marks.{kept_rows}
 use Rattle.nb_sheet.proofs.sheet.Sheet.replace_body.Goals as goal

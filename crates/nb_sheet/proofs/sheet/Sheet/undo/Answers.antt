@@ -1,5 +1,4 @@
-use Rattle.std.proofs.Common.{◌≡◌, ◌∙◌, sym, ap, List, take}
-use Rattle.nb_sheet.specs.declared.row.VarRow.{VarRow}
+use Rattle.std.proofs.Common.{◌∙◌, ap}
 use Rattle.nb_sheet.specs.Kept.{Kept}
 use Rattle.nb_sheet.specs.Changes.{put_back}
 use Rattle.nb_sheet.proofs.Marks.{undone}
