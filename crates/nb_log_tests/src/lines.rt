@@ -1,8 +1,7 @@
 //! What is read of lines, and which line is the first bad one, for which reason.
-use nb_lines::{BadReason, LineFail, ScriptLine, Scripts, line_number, read_lines};
+use nb_lines::{BadReason, LineFail, Scripts, line_number, read_lines};
 use nb_log::{Entry, Refusal, push_entries};
-use nb_parser::ParseError;
-use nb_value::Bytes;
+use nb_value::{Bytes, Tree};
 use std::alloc::Global;
 use std::mem::drop;
 use std::test::Fail;
@@ -316,23 +315,18 @@ fn counts_lines_that_say_something(rt: HostRuntime) -> Result<(), Fail> {
     Ok(())
 }
 
-// The entry of a line, were it refused.
-fn refused(line: ScriptLine) -> Entry {
-    Entry::Refused {
+// What the one line that was read is written as, were it refused.
+fn written(alloc: Global, scripts: &Scripts) -> Result<Bytes, Fail> {
+    let [line] = scripts.as_slice() else {
+        return Err("another number of lines".into());
+    };
+    let entry = Entry::Refused {
         editor: line.editor,
         reason: Refusal::Disposed,
-        event: line.event,
-    }
-}
-
-// What the one line that was read is written as.
-fn written(alloc: Global, scripts: Scripts) -> Result<Bytes, Fail> {
-    let mut text = Bytes::new(alloc);
-    let mut lines = scripts.into_vec();
-    let Some(line) = lines.pop() else {
-        return Err("no line".into());
+        event: line.event.copy(alloc)?,
     };
-    let pushed = push_entries(alloc, &mut text, &[refused(line)]);
+    let mut text = Bytes::new(alloc);
+    let pushed = push_entries(alloc, &mut text, &[entry]);
     pushed?;
     Ok(text)
 }
@@ -344,7 +338,9 @@ fn reads_each_form(rt: HostRuntime) -> Result<(), Fail> {
         let Ok(scripts) = read_lines(alloc, line.as_bytes()) else {
             return Err("refused".into());
         };
-        let text = written(alloc, scripts)?;
+        let text = written(alloc, &scripts);
+        drop(scripts);
+        let text = text?;
         let (editor, rest) = object.split_at(1);
         let wanted = format!(in alloc; "[\"refused\",{editor},20,\"Disposed\"{rest}]\n")?;
         assert_eq!(rt; text.as_slice(), wanted.as_bytes(), "{line}");

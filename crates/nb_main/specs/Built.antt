@@ -1,6 +1,6 @@
 -- Which lines are built.
 use Rattle.std.specs.Prelude.{◌≡◌, ◌<◌, ℕ, ◌==◌, Bool, true, false, not, ◌&&◌, List, [], ◌∷◌, Option, option_map, ⊤}
-use Rattle.std.specs.List.{position}
+use Rattle.std.specs.List.{position_from}
 use Rattle.nb_syntax.specs.declared.tree.Cell.{Cell}
 use Rattle.nb_syntax.specs.Plain.{is_plain}
 use Rattle.nb_sheet.specs.declared.edit.Edit.{Edit}
@@ -11,7 +11,7 @@ use Rattle.nb_lines.specs.declared.script.ScriptLine.{ScriptLine}
 use Rattle.nb_lines.specs.Lines.{scripts, line_number}
 
 abbrev pub adds_plain : Edit → Bool
-adds_plain (AddCell module cell observed) = (module == 0) && observed && is_plain cell
+adds_plain (AddCell m cell observed) = (m == 0) && observed && is_plain cell
 adds_plain _ = false
 
 abbrev pub is_plain_event : Event → Bool
@@ -22,9 +22,13 @@ is_plain_event _ = false
 abbrev pub is_built : ScriptLine → Bool
 is_built s = is_plain_event s.event
 
+-- the place of the first line that isn't built, where the first line is at 0
+abbrev pub place_not_built : List ScriptLine → Option ℕ
+place_not_built ss = position_from (λ s. not (is_built s)) 0 ss
+
 -- the number of the first line that isn't built, in an input without a bad line
 unfoldable pub first_not_built : List ℕ → Option ℕ
-first_not_built bytes = option_map (line_number bytes) (position (λ s. not (is_built s)) (scripts bytes))
+first_not_built bytes = option_map (line_number bytes) (place_not_built (scripts bytes))
 
 -- ---- what is asked of lines that are run
 

@@ -27,7 +27,7 @@ lex_place (lex.BadEscape n) = n
 lex_place (lex.TooWide n) = n
 lex_place lex.Memory = 0
 
--- The name of a cell's fault, its place, and the token where one is named. No bad line has want of memory as its fault.
+-- The name of a cell's fault, and its place. No bad line has want of memory as its fault.
 abbrev pub fault_word : ParseError → List ℕ
 fault_word (parse.Lex e) = lex_word e
 fault_word (parse.Unexpected n token) = codes "Unexpected"
@@ -41,10 +41,6 @@ fault_place (parse.Unexpected n token) = n
 fault_place (parse.Ended n) = n
 fault_place (parse.TooDeep n) = n
 fault_place parse.Memory = 0
-
-abbrev pub fault_token : ParseError → List ℕ
-fault_token (parse.Unexpected n token) = codes " " ++ token
-fault_token _ = []
 
 -- The word of a reason, with a space behind it where something follows.
 abbrev pub reason_word : BadReason → List ℕ
@@ -65,14 +61,26 @@ reason_key (reason.MissingField key) = key
 reason_key (reason.WrongField key) = key
 reason_key _ = []
 
+-- a line's number, a word, and a key behind it
+abbrev pub reason_line : List ℕ → List ℕ → List ℕ → List ℕ
+reason_line line word key = codes "notebook: line " ++ (line ++ (codes ": " ++ (word ++ (key ++ codes "\n"))))
+
+-- a line's number, the name of its cell's fault, and a place
+abbrev pub fault_line : List ℕ → List ℕ → List ℕ → List ℕ
+fault_line line word place = codes "notebook: line " ++ (line ++ (codes ": BadCell " ++ (word ++ (codes " " ++ (place ++ codes "\n")))))
+
+-- a line's number, the place of a token, and the token
+abbrev pub unexpected_line : List ℕ → List ℕ → List ℕ → List ℕ
+unexpected_line line place token = codes "notebook: line " ++ (line ++ (codes ": BadCell Unexpected " ++ (place ++ (codes " " ++ (token ++ codes "\n")))))
+
 abbrev pub bad_cell_line : List ℕ → ParseError → List ℕ
-bad_cell_line line fault =
-    codes "notebook: line " ++ (line ++ (codes ": BadCell " ++ (fault_word fault ++ (codes " " ++ (decimal (fault_place fault) ++ (fault_token fault ++ codes "\n"))))))
+bad_cell_line line (parse.Unexpected n token) = unexpected_line line (decimal n) token
+bad_cell_line line e = fault_line line (fault_word e) (decimal (fault_place e))
 
 -- The text of a bad line.
 abbrev pub bad_line : ℕ → BadReason → List ℕ
 bad_line line (reason.BadCell fault) = bad_cell_line (decimal line) fault
-bad_line line r = codes "notebook: line " ++ (decimal line ++ (codes ": " ++ (reason_word r ++ (reason_key r ++ codes "\n"))))
+bad_line line r = reason_line (decimal line) (reason_word r) (reason_key r)
 
 abbrev pub note : Status → List ℕ
 note Ok = []

@@ -1,5 +1,5 @@
 -- What the bytes of an input come to.
-use Rattle.std.specs.Prelude.{◌≡◌, ◌<◌, ◌≤◌, ◌⊎◌, ℕ, List, [], length, None, Some, Result}
+use Rattle.std.specs.Prelude.{◌≡◌, ◌<◌, ◌≤◌, ℕ, List, [], length, None, Some, Result}
 use Rattle.std.specs.declared.result.Result.TheVariants.{Ok, Err}
 use Rattle.nb_lines.specs.Lines.{first_bad, scripts, script_lines, IsBad}
 use Rattle.nb_lines.specs.declared.script.LineFail.{LineFail}
@@ -9,15 +9,17 @@ use Rattle.nb_history.specs.Headline.{IsHistoryOf}
 use Rattle.nb_history.specs.Print.{printing}
 use Rattle.nb_main.specs.declared.status.Status.{Status}
 use Rattle.nb_main.specs.declared.status.Status.TheVariants as status
+use Rattle.nb_main.specs.declared.answer.Refused.{Refused}
+use Rattle.nb_main.specs.declared.answer.Refused.TheVariants as refused
 use Rattle.nb_main.specs.Built.{first_not_built}
 
 -- The most bytes that an input may have.
 abbrev pub limit : ℕ
 limit = 4194304
 
-abbrev pub fault_status : LineFail → Status
-fault_status (fail.Bad line reason) = status.BadInput line reason
-fault_status fail.Memory = status.Memory
+abbrev pub refused_by : LineFail → Refused
+refused_by (fail.Bad line reason) = refused.Bad line reason
+refused_by fail.Memory = refused.Memory
 
 -- The bytes of an input are refused with this status: they are too many; or else a line is bad; or else one isn't built.
 abbrev pub IsRefusal : List ℕ → Status → Type 0
@@ -39,6 +41,8 @@ pub record IsOutcome (bytes text : List ℕ) : Type 0 where
   pub printed : text ≡ printing [] log
 
 -- An answer to bytes: their outcome, or why they are refused. Memory may run out.
-abbrev pub IsAnswer : List ℕ → Result (List ℕ) Status → Type 0
+abbrev pub IsAnswer : List ℕ → Result (List ℕ) Refused → Type 0
 IsAnswer bytes (Ok text) = IsReadable bytes × IsOutcome bytes text
-IsAnswer bytes (Err s) = (s ≡ status.Memory) ⊎ IsRefusal bytes s
+IsAnswer bytes (Err (refused.Bad line reason)) = IsBad (first_bad bytes) line reason
+IsAnswer bytes (Err (refused.NotBuilt line)) = (first_bad bytes ≡ None) × (first_not_built bytes ≡ Some line)
+IsAnswer bytes (Err refused.Memory) = Unit {0}

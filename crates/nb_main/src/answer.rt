@@ -2,22 +2,57 @@ ghost use Rattle.nb_main.specs.Outcome.{IsAnswer};
 
 use crate::built::first_not_built;
 use crate::history::history;
-use crate::status::Status;
-use nb_lines::read_lines;
+use nb_lines::{BadReason, LineFail, read_lines};
 use nb_print::print;
 use nb_value::Bytes;
-use std::alloc::Global;
+use std::alloc::{AllocError, Global};
 
 /// The most bytes that an input may have.
 pub const LIMIT: usize = 4_194_304;
 
+/// Why bytes have no outcome.
+#[derive(Debug, Drop)]
+pub enum Refused {
+    /// The first line that is bad, and its first reason.
+    Bad { line: u32, reason: BadReason },
+    /// The first line that isn't built.
+    NotBuilt(usize),
+    /// Memory ran out.
+    Memory,
+}
+
+impl From<LineFail> for Refused {
+    ghost use Rattle.std.specs.Prelude.{◌≡◌};
+    ghost use Rattle.nb_main.specs.Outcome.{refused_by};
+
+    ghost from_gives = { λ fail e. e ≡ refused_by fail };
+
+    fn from(fail: LineFail) -> Refused {
+        match fail {
+            LineFail::Bad { line, reason } => Refused::Bad { line, reason },
+            LineFail::Memory => Refused::Memory,
+        }
+    }
+}
+
+impl From<AllocError> for Refused {
+    ghost use Rattle.std.specs.Prelude.{◌≡◌};
+    ghost use Rattle.nb_main.specs.declared.answer.Refused.TheVariants.{Memory};
+
+    ghost from_gives = { λ _ e. e ≡ Memory };
+
+    fn from(_refused: AllocError) -> Refused {
+        Refused::Memory
+    }
+}
+
 /// What is written for these bytes, or why they are refused.
-pub fn answer(alloc: Global, bytes: &[u8]) -> Result<Bytes, Status>
+pub fn answer(alloc: Global, bytes: &[u8]) -> Result<Bytes, Refused>
     ensures { IsAnswer bytes.now result }
 {
     let lines = read_lines(alloc, bytes)?;
     if let Some(number) = first_not_built(bytes, &lines) {
-        return Err(Status::NotBuilt(number));
+        return Err(Refused::NotBuilt(number));
     }
     let core = history(alloc, &lines)?;
     let text = print(alloc, &core)?;

@@ -1,8 +1,7 @@
 //! Which lines are built.
-ghost use Rattle.std.specs.Prelude.{◌≡◌, not};
-ghost use Rattle.std.specs.List.{position};
+ghost use Rattle.std.specs.Prelude.{◌≡◌};
 ghost use Rattle.nb_lines.specs.Lines.{scripts};
-ghost use Rattle.nb_main.specs.Built.{is_built, first_not_built};
+ghost use Rattle.nb_main.specs.Built.{is_built, place_not_built, first_not_built};
 
 use nb_lines::{ScriptLine, Scripts, line_number};
 use nb_log::Event;
@@ -23,9 +22,14 @@ pub fn first_not_built(bytes: &[u8], lines: &Scripts) -> Option<usize>
 
 /// The place of the first line that isn't built.
 fn place_not_built(lines: &[ScriptLine]) -> Option<usize>
-    ensures { result ≡ position (λ s. not (is_built s)) lines.now }
+    ensures { result ≡ place_not_built lines.now }
 {
-    lines.iter().position(|line| !is_built(line))
+    for (place, line) in lines.iter().enumerate() {
+        if !is_built(line) {
+            return Some(place);
+        }
+    }
+    None
 }
 
 /// Whether a line adds an observed cell to module 0, which neither fetches, yields nor cleans up.

@@ -3,7 +3,7 @@ ghost use Rattle.nb_main.specs.Answers.{Answers, seen};
 ghost use Rattle.nb_main.specs.Causes.{Causes};
 ghost use Rattle.nb_main.specs.Notes.{note, Notes};
 
-use crate::answer::{LIMIT, answer};
+use crate::answer::{LIMIT, Refused, answer};
 use crate::notes::tell;
 use crate::status::Status;
 use crate::words::read_words;
@@ -49,12 +49,10 @@ pub fn without_words<E: Sink>(notes: &mut E) -> Status
     ensures status { result ≡ Status.Memory }
     ensures notes { Notes (note result) (E.written notes.old) (E.written notes.new) (E.faults notes.old) (E.faults notes.new) }
 {
-    let status = Status::Memory;
-    let _ = tell(notes, &status);
-    status
+    let _ = tell(notes, &Status::Memory);
+    Status::Memory
 }
 
-#[tactic(auto, using(crate::proofs::OutcomeLemmas::refusals))]
 fn run<S: Source, K: Sink>(alloc: Global, words: &Words, input: &mut S, out: &mut K) -> Status
     ensures { Answers result (record {
       words = words.now;
@@ -73,7 +71,9 @@ fn run<S: Source, K: Sink>(alloc: Global, words: &Words, input: &mut S, out: &mu
     };
     let text = match answer(alloc, bytes.as_slice()) {
         Ok(text) => text,
-        Err(status) => return status,
+        Err(Refused::Bad { line, reason }) => return Status::BadInput(line, reason),
+        Err(Refused::NotBuilt(line)) => return Status::NotBuilt(line),
+        Err(Refused::Memory) => return Status::Memory,
     };
     match write_whole(out, text.as_slice()) {
         Ok(()) => Status::Ok,

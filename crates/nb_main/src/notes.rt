@@ -1,8 +1,8 @@
 //! What is told on the notes.
-ghost use Rattle.std.specs.Prelude.{◌≡◌, ◌++◌};
+ghost use Rattle.std.specs.Prelude.{◌≡◌};
 ghost use Rattle.nb_io.specs.Causes.{HasCause};
 ghost use Rattle.nb_io.specs.Streams.{WritesAll};
-ghost use Rattle.nb_main.specs.Notes.{note, bad_line, bad_cell_line, reason_word, reason_key, lex_word, lex_place, fault_word, fault_place, fault_token};
+ghost use Rattle.nb_main.specs.Notes.{note, bad_line, reason_line, bad_cell_line, fault_line, unexpected_line, reason_word, reason_key, lex_word, lex_place, fault_word, fault_place};
 
 use crate::status::Status;
 use nb_io::{Failed, Sink, write_pieces, write_whole};
@@ -46,12 +46,21 @@ fn tell_bad_line<E: Sink>(notes: &mut E, line: u32, reason: &BadReason) -> Resul
     let line = digits.format(line).as_bytes();
     match reason {
         BadReason::BadCell(fault) => tell_bad_cell(notes, line, fault),
-        _ => {
-            let word = reason_word(reason);
-            let key = reason_key(reason);
-            write_pieces(notes, &[b"notebook: line ", line, b": ", word, key, b"\n"])
-        }
+        _ => write_reason(notes, line, reason_word(reason), reason_key(reason)),
     }
+}
+
+/// Writes a reason of a line, whose number has these digits: a word, and the key of a field behind it.
+fn write_reason<'t, E: Sink>(
+    notes: &mut E,
+    line: &'t [u8],
+    word: &'t [u8],
+    key: &'t [u8],
+) -> Result<(), Failed>
+    ensures writes { WritesAll (reason_line line.now word.now key.now) (E.written notes.old) (E.written notes.new) result }
+    ensures cause { HasCause (E.faults notes.old) (E.faults notes.new) result }
+{
+    write_pieces(notes, &[b"notebook: line ", line, b": ", word, key, b"\n"])
 }
 
 /// Writes that the cell of a line, whose number has these digits, is none, and why.
@@ -61,8 +70,24 @@ fn tell_bad_cell<E: Sink>(notes: &mut E, line: &[u8], fault: &ParseError) -> Res
 {
     let mut digits = itoa::Buffer::new();
     let place = digits.format(fault_place(fault)).as_bytes();
-    let word = fault_word(fault);
-    let (gap, token) = fault_token(fault);
+    match fault {
+        ParseError::Unexpected(_, token) => {
+            write_unexpected(notes, line, place, token.as_str().as_bytes())
+        }
+        _ => write_fault(notes, line, fault_word(fault), place),
+    }
+}
+
+/// Writes a fault of a line's cell: its name, and the digits of its place.
+fn write_fault<'t, E: Sink>(
+    notes: &mut E,
+    line: &'t [u8],
+    word: &'t [u8],
+    place: &'t [u8],
+) -> Result<(), Failed>
+    ensures writes { WritesAll (fault_line line.now word.now place.now) (E.written notes.old) (E.written notes.new) result }
+    ensures cause { HasCause (E.faults notes.old) (E.faults notes.new) result }
+{
     write_pieces(
         notes,
         &[
@@ -72,7 +97,29 @@ fn tell_bad_cell<E: Sink>(notes: &mut E, line: &[u8], fault: &ParseError) -> Res
             word,
             b" ",
             place,
-            gap,
+            b"\n",
+        ],
+    )
+}
+
+/// Writes that a token of a line's cell isn't expected, with the digits of its place.
+fn write_unexpected<'t, E: Sink>(
+    notes: &mut E,
+    line: &'t [u8],
+    place: &'t [u8],
+    token: &'t [u8],
+) -> Result<(), Failed>
+    ensures writes { WritesAll (unexpected_line line.now place.now token.now) (E.written notes.old) (E.written notes.new) result }
+    ensures cause { HasCause (E.faults notes.old) (E.faults notes.new) result }
+{
+    write_pieces(
+        notes,
+        &[
+            b"notebook: line ",
+            line,
+            b": BadCell Unexpected ",
+            place,
+            b" ",
             token,
             b"\n",
         ],
@@ -154,15 +201,5 @@ fn lex_place(error: LexError) -> usize
         LexError::BadEscape(place) => place,
         LexError::TooWide(place) => place,
         LexError::Memory => 0,
-    }
-}
-
-/// The token that a fault names, with a space before it; or nothing.
-fn fault_token(fault: &ParseError) -> (&[u8], &[u8])
-    ensures { result.0.now ++ result.1.now ≡ fault_token fault.now }
-{
-    match fault {
-        ParseError::Unexpected(_, token) => (b" ", token.as_str().as_bytes()),
-        _ => (b"", b""),
     }
 }

@@ -1,5 +1,4 @@
-use nb_lines::{BadReason, LineFail};
-use std::alloc::AllocError;
+use nb_lines::BadReason;
 
 /// How a call ended.
 #[derive(Debug, Drop)]
@@ -40,30 +39,5 @@ impl Status {
             Status::WriteFault => 5,
             Status::TooLong(_) => 7,
         }
-    }
-}
-
-impl From<LineFail> for Status {
-    ghost use Rattle.std.specs.Prelude.{◌≡◌};
-    ghost use Rattle.nb_main.specs.Outcome.{fault_status};
-
-    ghost from_gives = { λ fail status. status ≡ fault_status fail };
-
-    fn from(fail: LineFail) -> Status {
-        match fail {
-            LineFail::Bad { line, reason } => Status::BadInput(line, reason),
-            LineFail::Memory => Status::Memory,
-        }
-    }
-}
-
-impl From<AllocError> for Status {
-    ghost use Rattle.std.specs.Prelude.{◌≡◌};
-    ghost use Rattle.nb_main.specs.declared.status.Status.TheVariants.{Memory};
-
-    ghost from_gives = { λ _ status. status ≡ Memory };
-
-    fn from(_refused: AllocError) -> Status {
-        Status::Memory
     }
 }
