@@ -1,4 +1,5 @@
 //! Edits of a sheet, and the reasons against them.
+use nb_derive::apply;
 use nb_sheet::{BodyOf, Edit, Sheet};
 use nb_syntax::{Body, Cell, Expr};
 use nb_value::{Pairs, Text};
@@ -226,10 +227,10 @@ fn edit_of(alloc: Global, act: Act) -> Result<Edit, AllocError> {
 }
 
 // 0 where the edit is done, and otherwise the number of the reason against it.
-fn take(sheet: &mut Sheet, edit: Edit, place: u64) -> Result<u32, AllocError> {
+fn take(alloc: Global, sheet: &mut Sheet, edit: Edit, place: u64) -> Result<u32, AllocError> {
     let answer = match sheet.check(&edit) {
         Err(reason) => Ok(reason as u32),
-        Ok(()) => sheet.apply(&edit, place).map(|_| 0),
+        Ok(()) => apply(alloc, sheet, &edit, place).map(|_| 0),
     };
     drop(edit);
     answer
@@ -262,7 +263,7 @@ fn stand(sheet: &Sheet, rows: &[(u32, Row)]) -> bool {
 fn comes_out(alloc: Global, sheet: &mut Sheet, step: &Step) -> Result<bool, AllocError> {
     for _ in 0..step.times {
         let edit = edit_of(alloc, step.act)?;
-        if take(sheet, edit, step.place)? != step.reason {
+        if take(alloc, sheet, edit, step.place)? != step.reason {
             return Ok(false);
         }
     }

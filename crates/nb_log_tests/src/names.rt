@@ -1,4 +1,5 @@
 //! What names stand for, and what variables rest on.
+use nb_derive::apply;
 use nb_resolve::{Resolution, inputs, is_duplicate, resolve};
 use nb_sheet::{Edit, Sheet};
 use nb_syntax::{Body, Cell, Expr};
@@ -134,10 +135,10 @@ fn edit_of(alloc: Global, act: Act) -> Result<Edit, AllocError> {
 }
 
 // Whether the edit is done.
-fn take(sheet: &mut Sheet, edit: Edit) -> Result<bool, AllocError> {
+fn take(alloc: Global, sheet: &mut Sheet, edit: Edit) -> Result<bool, AllocError> {
     let answer = match sheet.check(&edit) {
         Err(_) => Ok(false),
-        Ok(()) => sheet.apply(&edit, 1).map(|_| true),
+        Ok(()) => apply(alloc, sheet, &edit, 1).map(|_| true),
     };
     drop(edit);
     answer
@@ -146,7 +147,7 @@ fn take(sheet: &mut Sheet, edit: Edit) -> Result<bool, AllocError> {
 fn all_done(alloc: Global, sheet: &mut Sheet, acts: &[Act]) -> Result<bool, AllocError> {
     for act in acts {
         let edit = edit_of(alloc, *act)?;
-        if !take(sheet, edit)? {
+        if !take(alloc, sheet, edit)? {
             return Ok(false);
         }
     }
