@@ -1,5 +1,5 @@
 -- The editor of each line that is read is one of eight.
-use Rattle.std.proofs.Common.{◌≡◌, ◌<◌, ℕ, zero, suc, List, [], ◌∷◌, length, Option, Some, None, option_map, option_and_then, unwrap_or, Bool, true, false, cond, refl, sym, ap, arith, nat_le, slice_index_or, All, Result, Ok, Err, IfOk, subst}
+use Rattle.std.proofs.Common.{◌≡◌, ◌<◌, ℕ, zero, suc, List, [], ◌∷◌, Option, Some, None, option_map, option_and_then, unwrap_or, Bool, true, false, cond, refl, sym, ap, arith, nat_le, All, Result, Ok, Err, IfOk, subst}
 use Rattle.std.proofs.lemmas.Bool.{leb-true}
 use Rattle.std.proofs.lemmas.Option.{same_Some}
 use Rattle.std.specs.List.{cons_option}
@@ -9,7 +9,6 @@ use Rattle.nb_log.specs.declared.event.Event.{Event}
 use Rattle.nb_lines.specs.declared.form.Field.TheVariants as field
 use Rattle.nb_lines.specs.declared.script.ScriptLine.{ScriptLine}
 use Rattle.nb_lines.specs.declared.script.LineFail.{LineFail}
-use Rattle.nb_lines.specs.declared.script.LineFail.TheVariants.{Bad, Memory}
 use Rattle.nb_lines.specs.Forms.{field_name}
 use Rattle.nb_lines.specs.Fields.{at_most, editor_in, number_in, editor_of}
 use Rattle.nb_lines.specs.Reasons.{Fault, line_data, form_of}

@@ -9,7 +9,7 @@ use Rattle.nb_parser.specs.Text.{cell_of}
 use Rattle.nb_parser.specs.Parse.{HasNone, Refuses, IsRefused}
 use Rattle.nb_lines.specs.declared.script.BadReason.TheVariants.{NotObject, Unnamed, BadCell}
 use Rattle.nb_lines.specs.declared.script.OneFail.TheVariants as one
-use Rattle.nb_lines.specs.Reasons.{Fault, plain, no_cell, text_fault, name_fault, data_fault}
+use Rattle.nb_lines.specs.Reasons.{plain, no_cell, text_fault, name_fault, data_fault}
 use Rattle.nb_lines.specs.Reads.{Fails, cell_fail}
 
 refused : (text : List ℕ) (e : ParseError) → cell_of text ≡ None → IsRefused text e → Fails (text_fault text) (one.Bad (BadCell e))

@@ -1,9 +1,8 @@
 -- A field that a line may have: where it is there it is as one that the line needs, and where it isn't it has no fault.
-use Rattle.std.proofs.Common.{◌≡◌, Option, Some, None, Bool, true, false, is_some, refl}
+use Rattle.std.proofs.Common.{◌≡◌, Option, Some, None, true, false, is_some, refl}
 use Rattle.serde_json.specs.Data.{Data}
 use Rattle.serde_json.specs.Find.{get}
 use Rattle.nb_lines.specs.declared.form.Field.{Field}
-use Rattle.nb_lines.specs.declared.script.BadReason.{BadReason}
 use Rattle.nb_lines.specs.Forms.{Kind, needs, may, field_name}
 use Rattle.nb_lines.specs.Fields.{is_there, field_case, field_reason}
 

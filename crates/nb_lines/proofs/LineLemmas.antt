@@ -1,11 +1,11 @@
 -- Lines one after another: what the first adds, and what those behind it add.
-use Rattle.std.proofs.Common.{◌≡◌, ◌⊎◌, inl, inr, ◌<◌, ◌≤◌, ◌+◌, ℕ, suc, List, [], ◌∷◌, ◌++◌, length, drop, take, Option, Some, None, option_map, Bool, true, false, not, cond, refl, sym, ap, ◌∙◌, arith, append_assoc, append-nil, nat_eq, IfNone, IfSome, Result, Ok, Err, IsErrAnd, subst}
+use Rattle.std.proofs.Common.{◌≡◌, inl, inr, ◌<◌, ◌≤◌, ◌+◌, ℕ, suc, List, [], ◌∷◌, ◌++◌, length, drop, take, Option, Some, None, option_map, Bool, true, false, not, cond, refl, sym, ap, ◌∙◌, arith, append_assoc, nat_eq, IfNone, IfSome, Result, Ok, Err, IsErrAnd, subst}
 use Rattle.std.proofs.lemmas.Bool.{lt-ltb, le-ltb}
 use Rattle.std.proofs.lemmas.List.Splits.{slice_split_first}
 use Rattle.std.proofs.lemmas.Option.{none-some}
 use Rattle.std.proofs.Math.Nat.{lt_of_not-le}
 use Rattle.std.specs.Option.{option_or}
-use Rattle.std.specs.List.{slice_split, onto_first, cons_option, position_or_len}
+use Rattle.std.specs.List.{onto_first, cons_option, position_or_len}
 use Rattle.nb_lines.specs.declared.script.ScriptLine.{ScriptLine}
 use Rattle.nb_lines.specs.declared.script.LineFail.{LineFail}
 use Rattle.nb_lines.specs.declared.script.LineFail.TheVariants.{Bad, Memory}

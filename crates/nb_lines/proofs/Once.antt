@@ -1,8 +1,6 @@
 -- An input has one first bad line, with one first reason.
-use Rattle.std.proofs.Common.{◌≡◌, ℕ, List, Option, Some, None, Result, Ok, Err, refl, sym, ap, ◌∙◌, subst}
+use Rattle.std.proofs.Common.{◌≡◌, ℕ, List, Option, None, Result, Ok, Err, sym, ap, ◌∙◌, subst}
 use Rattle.std.proofs.lemmas.Option.{none-some, same_Some}
-use Rattle.nb_parser.specs.declared.error.ParseError.{ParseError}
-use Rattle.nb_parser.specs.Parse.{IsRefused}
 use Rattle.nb_parser.proofs.Places.{one_refusal}
 use Rattle.nb_lines.specs.declared.script.ScriptLine.{ScriptLine}
 use Rattle.nb_lines.specs.declared.script.BadReason.{BadReason}

@@ -1,6 +1,6 @@
 -- What data is as a field of each kind, and the faults of fields.
-use Rattle.std.specs.Prelude.{ℕ, Bool, true, false, not, List, [], ◌∷◌, find, Option, Some, None, is_some, option_map, option_and_then, unwrap_or, nat_le, ◌&&◌, if◌then◌else◌}
-use Rattle.std.specs.Option.{option_map_or, option_or}
+use Rattle.std.specs.Prelude.{ℕ, Bool, true, not, List, [], ◌∷◌, find, Option, Some, None, is_some, option_map, option_and_then, unwrap_or, nat_le, ◌&&◌, if◌then◌else◌}
+use Rattle.std.specs.Option.{option_map_or}
 use Rattle.serde_json.specs.Data.{Data, Items, no_items, item, Members, no_members, member}
 use Rattle.serde_json.specs.Find.{get, as_array, as_bool, as_number, as_object, as_str, as_u64}
 use Rattle.nb_value.specs.declared.value.Value.{Value}

@@ -1,5 +1,5 @@
 -- What a call on one line answers. Memory may run out; else the first fault comes, told as its reason.
-use Rattle.std.specs.Prelude.{◌≡◌, ◌⊎◌, Option, Some, None}
+use Rattle.std.specs.Prelude.{◌≡◌, ◌⊎◌, Option, Some}
 use Rattle.nb_parser.specs.declared.error.ParseError.{ParseError}
 use Rattle.nb_parser.specs.declared.error.ParseError.TheVariants as parse
 use Rattle.nb_lines.specs.declared.script.BadReason.{BadReason}

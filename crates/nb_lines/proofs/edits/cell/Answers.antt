@@ -1,5 +1,4 @@
 -- Why a text is no cell.
-use Rattle.std.proofs.Common.{ap, sym}
 use Rattle.nb_lines.proofs.FaultLemmas.{cell_fails}
 use Rattle.nb_lines.proofs.edits.cell.Goals as goal
 

@@ -1,8 +1,7 @@
 -- A line that is bad, for each cause, and one that is read.
-use Rattle.std.proofs.Common.{ℕ, option_map, ◌≡◌, ◌≤◌, length, sym, ap, ◌∙◌, refl, arith, ◌++◌, [], ◌∷◌, append-nil, Some, None, false}
+use Rattle.std.proofs.Common.{option_map, sym, ap, ◌∙◌, refl, arith, ◌++◌, [], append-nil}
 use Rattle.std.specs.List.{cons_option}
 use Rattle.nb_lines.specs.Reasons.{Fault}
-use Rattle.nb_lines.specs.Lines.{is_blank}
 use Rattle.nb_lines.proofs.LineLemmas.{too_many, too_wide, blank_fault, blank_says, own_fault_of, own_script, own_bad}
 use Rattle.nb_lines.proofs.lines.add_line.Goals as goal
 

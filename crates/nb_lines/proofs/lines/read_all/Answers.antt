@@ -1,5 +1,5 @@
 -- A line that is bad, the last line, and a line with others behind it.
-use Rattle.std.proofs.Common.{◌≡◌, [], ◌∷◌, sym, ap, ◌∙◌, arith, subst, append-nil, IfNone, IfSome}
+use Rattle.std.proofs.Common.{◌≡◌, [], ◌∷◌, sym, ◌∙◌, arith, subst, append-nil, IfNone, IfSome}
 use Rattle.nb_lines.specs.Lines.{lines, numbered, first_among, said}
 use Rattle.nb_lines.proofs.LineLemmas.{few_lines, first_of, stops, passes, later_bad, later_said}
 use Rattle.nb_lines.proofs.lines.read_all.Goals as goal
