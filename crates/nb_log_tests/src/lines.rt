@@ -9,74 +9,90 @@ use std::test::Fail;
 const GOOD: &str = "{\"do\":\"cell\",\"module\":0,\"cell\":\"x = 1 + 2\"}";
 
 // Lines that are read, with their editor and the object that they are written as.
-const READ: [(&str, &str); 20] = [
-    ("{\"do\":\"module\"}", "0,{\"do\":\"module\"}"),
+const READ: [(&str, u8, &str); 20] = [
+    ("{\"do\":\"module\"}", 0, "{\"do\":\"module\"}"),
     (
         "{\"do\":\"variable\",\"module\":4294967295}",
-        "0,{\"do\":\"variable\",\"module\":4294967295,\"observed\":true}",
+        0,
+        "{\"do\":\"variable\",\"module\":4294967295,\"observed\":true}",
     ),
     (
         " {\"observed\":false,\"editor\":7,\"module\":0,\"do\":\"variable\"}\r",
-        "7,{\"do\":\"variable\",\"module\":0,\"observed\":false}",
+        7,
+        "{\"do\":\"variable\",\"module\":0,\"observed\":false}",
     ),
     (
         "{\"do\":\"cell\",\"module\":1,\"cell\":\"x=1+2\",\"observed\":false}",
-        "0,{\"cell\":\"x = 1 + 2\",\"do\":\"cell\",\"module\":1,\"observed\":false}",
+        0,
+        "{\"cell\":\"x = 1 + 2\",\"do\":\"cell\",\"module\":1,\"observed\":false}",
     ),
     (
         "{\"do\":\"cell\",\"module\":0,\"cell\":\"\\n{ yield fetch(1); cleanup 1; }\\t\"}",
-        "0,{\"cell\":\"{ yield fetch(1); cleanup 1; }\",\"do\":\"cell\",\"module\":0,\"observed\":true}",
+        0,
+        "{\"cell\":\"{ yield fetch(1); cleanup 1; }\",\"do\":\"cell\",\"module\":0,\"observed\":true}",
     ),
     (
         "{\"do\":\"define\",\"variable\":7,\"cell\":\"1\",\"editor\":0}",
-        "0,{\"cell\":\"1\",\"do\":\"define\",\"variable\":7}",
+        0,
+        "{\"cell\":\"1\",\"do\":\"define\",\"variable\":7}",
     ),
     (
         "{\"do\":\"import\",\"variable\":2,\"name\":\"len\",\"from\":0}",
-        "0,{\"alias\":\"len\",\"do\":\"import\",\"from\":0,\"name\":\"len\",\"variable\":2}",
+        0,
+        "{\"alias\":\"len\",\"do\":\"import\",\"from\":0,\"name\":\"len\",\"variable\":2}",
     ),
     (
         "{\"do\":\"import\",\"variable\":2,\"name\":\"a\",\"alias\":\"$_0\",\"from\":0}",
-        "0,{\"alias\":\"$_0\",\"do\":\"import\",\"from\":0,\"name\":\"a\",\"variable\":2}",
+        0,
+        "{\"alias\":\"$_0\",\"do\":\"import\",\"from\":0,\"name\":\"a\",\"variable\":2}",
     ),
     (
         "{\"do\":\"delete\",\"variable\":0}",
-        "0,{\"do\":\"delete\",\"variable\":0}",
+        0,
+        "{\"do\":\"delete\",\"variable\":0}",
     ),
     (
         "{\"do\":\"redefine\",\"module\":0,\"cell\":\"x = 1\"}",
-        "0,{\"cell\":\"x = 1\",\"do\":\"redefine\",\"module\":0}",
+        0,
+        "{\"cell\":\"x = 1\",\"do\":\"redefine\",\"module\":0}",
     ),
     (
         "{\"do\":\"derive\",\"module\":0,\"with\":[],\"source\":1}",
-        "0,{\"do\":\"derive\",\"module\":0,\"source\":1,\"with\":[]}",
+        0,
+        "{\"do\":\"derive\",\"module\":0,\"source\":1,\"with\":[]}",
     ),
     (
         "{\"do\":\"derive\",\"module\":0,\"with\":[\"a\",{\"name\":\"b\"},{\"alias\":\"d\",\"name\":\"c\"}],\"source\":1}",
-        "0,{\"do\":\"derive\",\"module\":0,\"source\":1,\"with\":[{\"alias\":\"a\",\"name\":\"a\"},{\"alias\":\"b\",\"name\":\"b\"},{\"alias\":\"d\",\"name\":\"c\"}]}",
+        0,
+        "{\"do\":\"derive\",\"module\":0,\"source\":1,\"with\":[{\"alias\":\"a\",\"name\":\"a\"},{\"alias\":\"b\",\"name\":\"b\"},{\"alias\":\"d\",\"name\":\"c\"}]}",
     ),
-    ("{\"do\":\"frame\",\"editor\":3}", "3,{\"do\":\"frame\"}"),
-    ("{\"do\":\"rest\"}", "0,{\"do\":\"rest\"}"),
-    ("{\"do\":\"dispose\"}", "0,{\"do\":\"dispose\"}"),
+    ("{\"do\":\"frame\",\"editor\":3}", 3, "{\"do\":\"frame\"}"),
+    ("{\"do\":\"rest\"}", 0, "{\"do\":\"rest\"}"),
+    ("{\"do\":\"dispose\"}", 0, "{\"do\":\"dispose\"}"),
     (
         "{\"do\":\"settle\",\"ticket\":1,\"value\":{\"a\":[null,-1]}}",
-        "0,{\"do\":\"settle\",\"ticket\":1,\"value\":{\"a\":[null,-1]}}",
+        0,
+        "{\"do\":\"settle\",\"ticket\":1,\"value\":{\"a\":[null,-1]}}",
     ),
     (
         "{\"do\":\"settle\",\"ticket\":1,\"error\":\"\"}",
-        "0,{\"do\":\"settle\",\"error\":\"\",\"ticket\":1}",
+        0,
+        "{\"do\":\"settle\",\"error\":\"\",\"ticket\":1}",
     ),
     (
         "{\"do\":\"settle\",\"key\":\"k\",\"value\":true}",
-        "0,{\"do\":\"settle\",\"key\":\"k\",\"value\":true}",
+        0,
+        "{\"do\":\"settle\",\"key\":\"k\",\"value\":true}",
     ),
     (
         "{\"do\":\"settle\",\"key\":\"\",\"error\":\"e\"}",
-        "0,{\"do\":\"settle\",\"error\":\"e\",\"key\":\"\"}",
+        0,
+        "{\"do\":\"settle\",\"error\":\"e\",\"key\":\"\"}",
     ),
     (
         "{\"do\":\"frame\",\"do\":\"cell\",\"module\":1,\"cell\":\"x = )\",\"module\":0,\"cell\":\"1\"}",
-        "0,{\"cell\":\"1\",\"do\":\"cell\",\"module\":0,\"observed\":true}",
+        0,
+        "{\"cell\":\"1\",\"do\":\"cell\",\"module\":0,\"observed\":true}",
     ),
 ];
 
@@ -334,15 +350,14 @@ fn written(alloc: Global, scripts: &Scripts) -> Result<Bytes, Fail> {
 #[test]
 fn reads_each_form(rt: HostRuntime) -> Result<(), Fail> {
     let alloc = rt.alloc();
-    for (line, object) in &READ {
+    for (line, editor, object) in &READ {
         let Ok(scripts) = read_lines(alloc, line.as_bytes()) else {
             return Err("refused".into());
         };
         let text = written(alloc, &scripts);
         drop(scripts);
         let text = text?;
-        let (editor, rest) = object.split_at(1);
-        let wanted = format!(in alloc; "[\"refused\",{editor},20,\"Disposed\"{rest}]\n")?;
+        let wanted = format!(in alloc; "[\"refused\",{editor},20,\"Disposed\",{object}]\n")?;
         assert_eq!(rt; text.as_slice(), wanted.as_bytes(), "{line}");
     }
     Ok(())

@@ -1,4 +1,5 @@
-ghost use Rattle.nb_main.specs.Outcome.{IsAnswer};
+ghost use Rattle.std.specs.Prelude.{◌≤◌, length};
+ghost use Rattle.nb_main.specs.Outcome.{limit, IsAnswer};
 
 use crate::built::first_not_built;
 use crate::history::history;
@@ -48,6 +49,7 @@ impl From<AllocError> for Refused {
 
 /// What is written for these bytes, or why they are refused.
 pub fn answer(alloc: Global, bytes: &[u8]) -> Result<Bytes, Refused>
+    requires { length bytes.now ≤ limit }
     ensures { IsAnswer bytes.now result }
 {
     let lines = read_lines(alloc, bytes)?;
