@@ -1,5 +1,5 @@
 -- Lines none of which isn't built.
-use Rattle.std.proofs.Common.{◌≡◌, ◌<◌, ◌+◌, ℕ, option_map, subst, zero, suc, List, [], ◌∷◌, length, Option, Some, None, Bool, true, false, not, cond, ◌&&◌, nat_eq, refl, sym, ap, ◌∙◌, arith, All}
+use Rattle.std.proofs.Common.{◌≡◌, ◌<◌, ◌+◌, ℕ, option_map, subst, suc, List, [], ◌∷◌, Option, Some, None, Bool, true, false, not, cond, ◌&&◌, nat_eq, refl, sym, ap, ◌∙◌, arith, All}
 use Rattle.std.proofs.lemmas.Bool.{eqb-true}
 use Rattle.std.specs.List.{position_from}
 use Rattle.nb_syntax.specs.declared.tree.Cell.{Cell}

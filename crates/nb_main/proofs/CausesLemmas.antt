@@ -1,5 +1,5 @@
 -- The causes of the statuses.
-use Rattle.std.proofs.Common.{◌≡◌, inl, inr, arith, subst, IsSome}
+use Rattle.std.proofs.Common.{◌≡◌, inl, arith, subst, IsSome}
 use Rattle.std.proofs.lemmas.Bool.{false≢true}
 use Rattle.nb_main.specs.declared.status.Status.{Status}
 use Rattle.nb_main.specs.declared.status.Status.TheVariants.{Ok, Memory, Usage, BadInput, NotBuilt, ReadFault, WriteFault, TooLong}

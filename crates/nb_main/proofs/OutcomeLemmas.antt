@@ -1,5 +1,5 @@
 -- When an input is refused: for one reason, and then it isn't readable.
-use Rattle.std.proofs.Common.{◌≡◌, ℕ, ◌<◌, ◌≤◌, List, length, None, Some, refl, sym, ap, ◌∙◌, arith}
+use Rattle.std.proofs.Common.{◌≡◌, ℕ, ◌<◌, ◌≤◌, List, length, None, Some, sym, ap, ◌∙◌, arith}
 use Rattle.std.proofs.lemmas.Option.{none-some, same_Some}
 use Rattle.nb_lines.specs.declared.script.BadReason.{BadReason}
 use Rattle.nb_lines.specs.Lines.{first_bad, IsBad}

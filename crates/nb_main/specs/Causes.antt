@@ -1,5 +1,5 @@
 -- When each status comes, status by status. All of it follows from `Answers`.
-use Rattle.std.specs.Prelude.{◌≡◌, ◌⊎◌, ℕ, List, Some, None, IsSome}
+use Rattle.std.specs.Prelude.{◌≡◌, ◌⊎◌, ℕ, List, None, IsSome}
 use Rattle.nb_io.specs.Causes.{Rose}
 use Rattle.nb_io.specs.Streams.{Tells}
 use Rattle.nb_main.specs.declared.status.Status.{Status}

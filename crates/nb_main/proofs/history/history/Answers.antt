@@ -1,4 +1,4 @@
-use Rattle.std.proofs.Common.{◌≡◌, ◌<◌, ◌≤◌, ◌∙◌, ap, sym, subst, List, length, [], arith}
+use Rattle.std.proofs.Common.{◌<◌, ◌≤◌, sym, subst, List, length, [], arith}
 use Rattle.nb_lines.specs.declared.script.ScriptLine.{ScriptLine}
 use Rattle.nb_lines.specs.Lines.{script_lines}
 use Rattle.nb_main.specs.Built.{AddsCell, AllAddCells}
