@@ -124,9 +124,6 @@ text_fault text = if is_some (cell_of text) then None else Some (no_cell text)
 abbrev pub bad_cell : Form → Data → Option Fault
 bad_cell f d = option_and_then text_fault (cell_text f d)
 
-abbrev pub has_name : Cell → Bool
-has_name c = is_some c.name
-
 -- 9
 abbrev pub if_unnamed : Cell → Option BadReason
 if_unnamed c = if is_some c.name then None else Some Unnamed

@@ -6,6 +6,7 @@ use std::alloc::AllocError;
 /// A line that was read: whose it is, and what it says.
 #[derive(Debug, Drop)]
 pub struct ScriptLine {
+    /// From 0 to 7.
     pub editor: u8,
     pub event: Event,
 }
