@@ -1,0 +1,13 @@
+pub mod Numbers
+pub mod Places
+pub mod Back
+pub mod Spreads
+pub mod Dues
+pub mod Rows
+pub mod Stepped
+pub mod Calm
+pub mod Changing
+pub mod Runs
+pub mod Closings
+pub mod Ascending
+pub mod Reversed

@@ -1,0 +1,8 @@
+pub mod Footings
+pub mod Rules
+pub mod Marks
+pub mod Steps
+pub mod Changes
+pub mod Wave
+pub mod Ascends
+pub mod Users

@@ -1,0 +1,19 @@
+//! Which variables leave and start again, and in which order, over numbers: nothing here knows of sheets or of values.
+#![tactic(auto)]
+
+mod closing;
+mod due;
+mod footing;
+mod row;
+mod step;
+mod steps;
+mod table;
+#[cfg(test)]
+mod tests;
+mod users;
+mod wave;
+
+pub use footing::Footing;
+pub use row::Row;
+pub use step::Step;
+pub use wave::Wave;
