@@ -1,0 +1,12 @@
+//! What closes after an entry, worked out before anything changes.
+#![tactic(auto)]
+
+mod closer;
+mod site;
+mod step;
+mod ties;
+
+pub use closer::Closer;
+pub use site::{Moment, Site, sites};
+pub use step::Step;
+pub use ties::{Ties, tie};

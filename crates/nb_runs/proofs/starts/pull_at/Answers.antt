@@ -1,0 +1,5 @@
+use Rattle.std.proofs.Common.{rules, ◌≡◌, ◌∙◌, sym}
+use Rattle.nb_runs.proofs.starts.pull_at.Goals as goal
+
+pub pull-requires : goal.pull-requires
+pull-requires c = c.requires c.in-Some.start c.in-Some.is

@@ -1,0 +1,4 @@
+pub mod Codes
+pub mod Footings
+pub mod Starts
+pub mod Tickets
