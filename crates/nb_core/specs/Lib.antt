@@ -1,5 +1,3 @@
 pub mod Codes
 pub mod Core
-pub mod Given
-pub mod State
-pub mod Replaced
+pub mod Stands

@@ -1,15 +1,11 @@
-//! The machine of a notebook: it takes events and outcomes, and keeps the log.
+//! The machine of a notebook: it takes events and work that was done, and keeps the log.
 #![tactic(auto)]
 
-mod adding;
-mod closing;
-mod done;
-mod inputs;
+mod calls;
 mod machine;
 mod placed;
-mod readiness;
-mod starts;
-mod ties;
+mod settling;
 
-pub use machine::{Core, settle};
+pub use calls::Core;
 pub use placed::{Placed, Shown};
+pub use settling::settle;

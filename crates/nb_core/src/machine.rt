@@ -1,317 +1,256 @@
-ghost use Rattle.std.specs.Prelude.{◌≡◌, ◌≤◌, ◌<◌, ◌+◌, [], true, length, IfOk, IfErr, OnOk, OnErr, IsTrue, ◌↔◌};
-ghost use Rattle.std.specs.Option.{option_copied};
-ghost use Rattle.nb_eval.specs.Work.{IsOf};
+ghost use Rattle.std.specs.Prelude.{◌≡◌, ◌≤◌, ◌<◌, ◌^◌, ◌+◌, ◌∷◌, [], true, false, Some, None, length, IfOk, IfErr, OnOk, OnErr};
 ghost use Rattle.nb_sheet.specs.Sheet.{refusal};
-ghost use Rattle.nb_sheet.specs.declared.edit.Edit.{Edit as EditValue};
-ghost use Rattle.nb_history.specs.Reading.{shown as shown_in_log};
-ghost use Rattle.nb_history.specs.History.{standing, IsClosedHistory};
-ghost use Rattle.nb_history.specs.Log.{admit, Rests};
-ghost use Rattle.nb_history.specs.Rules.{ready as ready_of, next, wanted as wanted_of, scratch};
-ghost use Rattle.nb_history.specs.Serial.{least_var};
-ghost use Rattle.nb_core.specs.Core.{IsAddedCell, IsAdmitted, Gains, Places, SettlesSoFar, Settles, ShownIs, work_of, start_number, shown_outcome, running, RestsOnScratch};
+ghost use Rattle.nb_history.specs.History.{standing, plus, plus_all};
+ghost use Rattle.nb_history.specs.Reading.{owed};
+ghost use Rattle.nb_history.specs.Rules.{footing};
+ghost use Rattle.nb_history.specs.Log.{cleanups_now, ends_at_once, is_live};
+ghost use Rattle.nb_runs.specs.Footings.{footing_of, IsMarked};
+ghost use Rattle.nb_closing.specs.Ties.{all_ties};
+ghost use Rattle.nb_closing.specs.Plan.{entry_of as step_entry, RestsRight, Plans, planned};
+ghost use Rattle.nb_work.specs.Notices.{shown_entry};
+ghost use Rattle.nb_core.specs.Core.{Gains, gate as gate_of};
 
-use crate::adding::{edit_entry, edit_of, grow};
-use crate::done::{copy_outcome, done_of, entry_of, outcome};
-use crate::placed::{Placed, Shown};
-use crate::starts::Started;
-use crate::{inputs, readiness};
-use nb_eval::{Work, WorkDone, is_work_of};
-use nb_log::{Entry, Event, Log, Refusal, refusal_of};
-use nb_sheet::Sheet;
-use nb_value::{Outcome, Pairs, Value};
+use nb_closing::{Closer, Step};
+use nb_log::{Entry, Event, Log, Refusal};
+use nb_runs::{Started, Ticket};
+use nb_sheet::{Edit, Sheet};
+use nb_value::{Answer, Items, Outcome, Pairs, Text, Value};
+use nb_wave::Footing;
 use std::alloc::{AllocError, Global};
 use std::marker::Model;
-use std::mem::drop;
 
-/// A log is full past this size.
-const FULL: u64 = 4_000_000;
-
-/// The machine. Contracts see it as its builtins and its log.
+/// The log, with the state that it leaves. Each call adds one entry, whatever entry it is: that it fits is the core's to ask.
 #[derive(Drop)]
-pub struct Core {
+pub struct Machine {
     alloc: Global,
     sheet: Sheet,
-    log: Log,
     starts: Vec<Option<Started>>,
+    disposed: bool,
+    tickets: Vec<Ticket>,
+    log: Log,
 }
 
-impl Model for Core {
-    ghost use Rattle.std.specs.Prelude.{◌≡◌};
-    ghost use Rattle.nb_history.specs.History.{History};
-    ghost use Rattle.nb_core.specs.Codes.{history_code};
+impl Model for Machine {
+    ghost use Rattle.nb_core.specs.Codes.{kept_code};
+    ghost use Rattle.nb_core.specs.Stands.{Kept, Stands};
     ghost use Rattle.nb_value.specs.contracts.value.Value as value;
     ghost use Rattle.nb_log.specs.contracts.entry.Entry as entry;
 
-    ghost Value = { History };
+    ghost Value = { Kept };
 
-    ghost coded = { history_code value.the_row.coded entry.the_row.coded };
+    ghost coded = { kept_code value.the_row.coded entry.the_row.coded };
 
-    ghost use Rattle.nb_core.specs.State.{IsCore, one_module};
+    ghost view = { λ m. record { history = record { builtins = m.sheet.sheet.builtins; log = m.log.entries }; room = m.log.room } };
 
-    ghost view = { λ c. record { builtins = c.sheet.sheet.builtins; log = c.log.entries } };
-
-    ghost invariant = { λ c. IsCore c.sheet.sheet.builtins c.sheet.sheet.rows c.starts.items c.log.entries × (c.sheet.sheet.modules ≡ one_module) };
+    ghost invariant = { λ m. Stands m.sheet.sheet m.starts.items m.disposed m.tickets.items m.log.entries };
 }
 
-impl Core {
-    /// An empty log over these builtins.
-    pub fn new(alloc: Global, builtins: Pairs<Value>) -> Result<Core, AllocError>
+impl Machine {
+    /// No entry.
+    pub fn new(alloc: Global, builtins: Pairs<Value>) -> Result<Machine, AllocError>
         requires { length builtins ≤ 65536 }
-        ensures { IfOk result (λ core. core ≡ record { builtins = builtins; log = [] }) }
+        ensures { IfOk result (λ machine. machine.history ≡ record { builtins = builtins; log = [] }) }
     {
         let sheet = Sheet::new(alloc, builtins)?;
-        Ok(Core {
+        Ok(Machine {
             alloc,
             sheet,
-            log: Log::new(alloc),
             starts: Vec::new(alloc),
+            disposed: false,
+            tickets: Vec::new(alloc),
+            log: Log::new(alloc),
         })
     }
 
-    /// Takes the event of an added cell: its entry, and what starts after it. This is the place of the entry.
-    /// Where memory runs out, nothing has changed and the event comes back.
-    /// It costs a scan over the rows for each name of each cell, and a look at each start for each that begins.
-    pub fn event(&mut self, editor: u8, event: Event) -> Result<u64, (Event, AllocError)>
-        requires low { editor < 8 }
-        requires form { IsAddedCell event }
-        ensures ok { IfOk result (λ place. (place ≡ length self.old.log + 1) × Gains self.old (admit (standing self.old) editor event) self.new) }
-        ensures err { IfErr result (λ refused. (refused.0 ≡ event) × (self.new ≡ self.old)) }
+    /// Makes room for more entries.
+    pub fn reserve(&mut self, n: usize) -> Result<(), AllocError>
+        ensures same { self.new.history ≡ self.old.history }
+        ensures room { OnOk result (n ≤ self.new.room) }
     {
-        if self.log.size() > FULL {
-            return self.refuse(editor, Refusal::LogFull, event);
-        }
-        match self.sheet.check(edit_of(&event)) {
-            Ok(()) => self.add(editor, event),
-            Err(refused) => self.refuse(editor, refusal_of(refused), event),
-        }
+        self.log.reserve(n)
     }
 
-    /// Writes down that an event is refused.
-    fn refuse(
-        &mut self,
-        editor: u8,
-        reason: Refusal,
-        event: Event,
-    ) -> Result<u64, (Event, AllocError)>
-        requires low { editor < 8 }
-        requires refused { admit (standing self.old) editor event ≡ Entry.Refused editor reason event }
-        ensures ok { IfOk result (λ place. (place ≡ length self.old.log + 1) × Gains self.old (admit (standing self.old) editor event) self.new) }
-        ensures err { IfErr result (λ refused. (refused.0 ≡ event) × (self.new ≡ self.old)) }
+    /// An event is refused.
+    pub fn refuse(&mut self, editor: u8, reason: Refusal, event: Event)
+        requires room { 0 < self.old.room }
+        ensures entry { self.new.history ≡ plus self.old.history (Entry.Refused editor reason event) }
+        ensures room { self.old.room ≤ self.new.room + 1 }
     {
-        let place = self.log.len() + 1;
-        match self.log.reserve(1) {
-            Ok(()) => {
-                self.log.push(Entry::Refused {
-                    editor,
-                    reason,
-                    event,
-                });
-                Ok(place)
-            }
-            Err(refused) => Err((event, refused)),
-        }
+        self.log.push(Entry::Refused {
+            editor,
+            reason,
+            event,
+        });
     }
 
-    /// Adds a cell that isn't refused.
-    fn add(&mut self, editor: u8, event: Event) -> Result<u64, (Event, AllocError)>
-        requires low { editor < 8 }
-        requires form { IsAddedCell event }
-        requires room { length self.old.log ≤ 4000000 }
-        requires clear { (edit : EditValue) → event ≡ Event.Edit edit → refusal (standing self.old).sheet edit ≡ None }
-        requires admitted { IsAdmitted (standing self.old) editor event }
-        ensures ok { IfOk result (λ place. (place ≡ length self.old.log + 1) × Gains self.old (admit (standing self.old) editor event) self.new) }
-        ensures err { IfErr result (λ refused. (refused.0 ≡ event) × (self.new ≡ self.old)) }
+    /// The log rests.
+    pub fn rest(&mut self, editor: u8)
+        requires room { 0 < self.old.room }
+        ensures entry { self.new.history ≡ plus self.old.history (Entry.Rest editor) }
+        ensures room { self.old.room ≤ self.new.room + 1 }
     {
-        let place = self.log.len() + 1;
-        let most = self.sheet.rows().len() + 2;
-        if let Err(refused) = self.log.reserve(most) {
-            return Err((event, refused));
-        }
-        match grow(
-            self.alloc,
-            &mut self.sheet,
-            &mut self.starts,
-            edit_of(&event),
-            place,
-        ) {
-            Ok(entries) => {
-                self.log.push(edit_entry(editor, event));
-                self.log.append(entries);
-                Ok(place)
-            }
-            Err(refused) => Err((event, refused)),
-        }
+        self.log.push(Entry::Rest { editor });
     }
 
-    /// The least ready variable. It takes no memory, and costs a look at each start and its inputs.
-    pub fn next_ready(&self) -> Option<u32>
-        ensures found { result ≡ least_var (standing self.now) (ready_of (standing self.now)) }
-        ensures closed { IsClosedHistory self.now }
-        ensures rest { RestsOnScratch self.now }
+    /// The notebook is disposed of.
+    pub fn dispose(&mut self, editor: u8)
+        requires room { 0 < self.old.room }
+        ensures entry { self.new.history ≡ plus self.old.history (Entry.Dispose editor) }
+        ensures room { self.old.room ≤ self.new.room + 1 }
     {
-        readiness::next_ready(&self.starts)
+        self.disposed = true;
+        self.log.push(Entry::Dispose { editor });
     }
 
-    /// Whether a variable is ready. It takes no memory.
-    fn is_ready(&self, var: u32) -> bool
-        ensures { result ≡ ready_of (standing self.now) var }
+    /// Each generator that waits for a pull is pulled. No start counts its pulls past 32 bits.
+    pub fn frame(&mut self, editor: u8)
+        requires room { 0 < self.old.room }
+        requires few { length self.old.history.log + 1 < 2 ^ 32 }
+        ensures entry { self.new.history ≡ plus self.old.history (Entry.Frame editor) }
+        ensures room { self.old.room ≤ self.new.room + 1 }
     {
-        readiness::is_ready(&self.starts, var)
+        let _place = self.log.len() + 1;
+        nb_runs::starts::pull_all(&self.sheet, &mut self.starts);
+        self.log.push(Entry::Frame { editor });
     }
 
-    /// The number of a variable's present start, 0 for an idle one or no variable. It takes no memory.
-    pub fn start(&self, var: u32) -> u64
-        ensures { result ≡ start_number (standing self.now) var }
+    /// A ticket that isn't live any more is settled.
+    pub fn late(&mut self, editor: u8, ticket: u64)
+        requires room { 0 < self.old.room }
+        ensures entry { self.new.history ≡ plus self.old.history (Entry.Late editor ticket) }
+        ensures room { self.old.room ≤ self.new.room + 1 }
     {
-        readiness::number(&self.starts, var)
+        nb_runs::tickets::settle(&mut self.tickets, ticket);
+        self.log.push(Entry::Late { editor, ticket });
     }
 
-    /// What is to be done for a ready variable. It copies the cell and the values of its inputs.
-    pub fn segment(&self, var: u32) -> Result<Work, AllocError>
-        requires { ready_of (standing self.now) var ≡ true }
-        ensures { IfOk result (λ work. work ≡ work_of (standing self.now) var) }
+    /// A ticket is settled by an editor. It fails only without memory, and then the answer comes back. It copies the answer.
+    pub fn settled(&mut self, editor: u8, ticket: u64, answer: Answer) -> Result<(), (Answer, AllocError)>
+        ensures ok { OnOk result (self.new.history ≡ plus self.old.history (Entry.Settled editor ticket answer)) }
+        ensures err { IfErr result (λ refused. (refused.0 ≡ answer) × (self.new.history ≡ self.old.history)) }
     {
-        let marks = readiness::marks(&self.starts, var);
-        let work = inputs::work(self.alloc, &self.sheet, &self.starts, var, marks.0, marks.1)?;
-        Ok(work)
+        loop {}
     }
 
-    /// Takes what was done at a start of a variable. It is shown where it is what is to be done now.
-    /// All memory is taken first: where it runs out, nothing has changed and the work comes back.
-    /// It evaluates nothing, and costs what `segment` does and a copy of the outcome.
-    pub fn complete(
-        &mut self,
-        var: u32,
-        start: u64,
-        done: WorkDone,
-    ) -> Result<Placed, (WorkDone, AllocError)>
-        ensures ok { IfOk result (λ placed. Places self.old self.new var start done placed) }
-        ensures err { IfErr result (λ refused. (refused.0 ≡ done) × (self.new ≡ self.old)) }
+    /// A loader answers a ticket. It fails only without memory, and then the answer comes back. It copies the answer.
+    pub fn loaded(&mut self, ticket: u64, answer: Answer) -> Result<(), (Answer, AllocError)>
+        ensures ok { OnOk result (self.new.history ≡ plus self.old.history (Entry.Loaded ticket answer)) }
+        ensures err { IfErr result (λ refused. (refused.0 ≡ answer) × (self.new.history ≡ self.old.history)) }
     {
-        let now = self.start(var);
-        if now != start || !self.is_ready(var) {
-            drop(done);
-            return Ok(Placed::Stale { held: start, now });
-        }
-        match self.is_work(var, &done) {
-            Ok(true) => match self.show(var, done) {
-                Ok(place) => Ok(Placed::Shown(place)),
-                Err(refused) => Err(refused),
-            },
-            Ok(false) => {
-                drop(done);
-                Ok(Placed::Stale { held: start, now })
-            }
-            Err(refused) => Err((done, refused)),
-        }
+        loop {}
     }
 
-    /// Whether this was done of what is to be done for a ready variable.
-    fn is_work(&self, var: u32, done: &WorkDone) -> Result<bool, AllocError>
-        requires { ready_of (standing self.now) var ≡ true }
-        ensures { IfOk result (λ same. IsTrue same ↔ IsOf (work_of (standing self.now) var) done.now) }
+    /// A variable shows an outcome. `entry` goes into the log.
+    pub fn show(&mut self, var: u32, entry: Entry, outcome: Outcome, cleanups: Items<Value>, ends: bool)
+        requires room { 0 < self.old.room }
+        requires same { entry ≡ shown_entry var outcome }
+        requires cleanups { cleanups ≡ cleanups_now (standing self.old.history) var }
+        requires ends { ends ≡ ends_at_once (standing self.old.history) var }
+        ensures entry { self.new.history ≡ plus self.old.history entry }
+        ensures room { self.old.room ≤ self.new.room + 1 }
     {
-        let work = self.segment(var)?;
-        Ok(is_work_of(&work, done))
+        loop {}
     }
 
-    /// Shows the outcome of what was done for a ready variable. This is the place of the entry.
-    fn show(&mut self, var: u32, done: WorkDone) -> Result<u64, (WorkDone, AllocError)>
-        requires ready { ready_of (standing self.old) var ≡ true }
-        requires work { IsOf (work_of (standing self.old) var) done }
-        ensures ok { IfOk result (λ place. (place ≡ length self.old.log + 1) × Gains self.old (next (standing self.old) var) self.new × (running self.new < running self.old)) }
-        ensures err { IfErr result (λ refused. (refused.0 ≡ done) × (self.new ≡ self.old)) }
+    /// A variable asks for a fetch by this key, by the next ticket. `entry` goes into the log. It fails only without memory;
+    /// then nothing has changed.
+    pub fn ask(&mut self, var: u32, entry: Entry, key: Text, cleanups: Items<Value>)
+        requires room { 0 < self.old.room }
+        requires same { entry ≡ Entry.Asked var (length (standing self.old.history).tickets + 1) key }
+        requires cleanups { cleanups ≡ cleanups_now (standing self.old.history) var }
+        ensures entry { self.new.history ≡ plus self.old.history entry }
+        ensures room { self.old.room ≤ self.new.room + 1 }
     {
-        let place = self.log.len() + 1;
-        match copy_outcome(self.alloc, &done) {
-            Ok(copy) => match self.log.reserve(1) {
-                Ok(()) => {
-                    self.log.push(entry_of(var, copy));
-                    readiness::show(&mut self.starts, var, outcome(done));
-                    Ok(place)
-                }
-                Err(refused) => Err((done, refused)),
-            },
-            Err(refused) => Err((done, refused)),
-        }
+        loop {}
     }
 
-    /// What a variable shows. Where the log rests, a wanted variable shows what evaluating from scratch gives.
-    /// It takes no memory.
-    pub fn shown(&self, var: u32) -> Shown<'_>
-        ensures value { ShownIs (standing self.now) var result }
-        ensures rest { Rests (standing self.now) → wanted_of (standing self.now) var ≡ true → shown_outcome result ≡ scratch (standing self.now) var }
+    /// A generator has no further value.
+    pub fn end(&mut self, var: u32, cleanups: Items<Value>)
+        requires room { 0 < self.old.room }
+        requires cleanups { cleanups ≡ cleanups_now (standing self.old.history) var }
+        ensures entry { self.new.history ≡ plus self.old.history (Entry.Ended var) }
+        ensures room { self.old.room ≤ self.new.room + 1 }
     {
-        readiness::shown_at(&self.starts, var)
+        loop {}
     }
 
-    /// The outcome that a variable shows, if it shows one. It takes no memory.
-    pub fn outcome(&self, var: u32) -> Option<&Outcome>
-        ensures { option_copied result ≡ shown_in_log (standing self.now) var }
+    /// All steps of what closes. It takes no memory.
+    pub fn commit(&mut self, steps: Vec<Step>)
+        requires room { length steps.items ≤ self.old.room }
+        requires plans { Plans (standing self.old.history) steps.items }
+        ensures { self.new.history ≡ plus_all self.old.history (planned (standing self.old.history) steps.items) }
     {
-        inputs::shown_of(&self.starts, var)
+        loop {}
     }
 
-    /// Whether a variable is wanted. It takes no memory.
-    pub fn wanted(&self, var: u32) -> bool
-        ensures { result ≡ wanted_of (standing self.now) var }
+    /// Does an edit that isn't refused, and then what closes. The closer takes over the ties of the new sheet. It fails only
+    /// without memory; then nothing has changed, and the edit comes back.
+    pub fn edit(&mut self, closer: &mut Closer, editor: u8, edit: Edit) -> Result<(), (Edit, AllocError)>
+        requires admitted { refusal (standing self.old.history).sheet edit ≡ None }
+        requires ties { closer.old ≡ all_ties (standing self.old.history).sheet }
+        ensures ok { OnOk result (Gains self.old.history (Entry.Edit editor edit) self.new.history) }
+        ensures ties { closer.new ≡ all_ties (standing self.new.history).sheet }
+        ensures err { IfErr result (λ refused. (refused.0 ≡ edit) × (self.new.history ≡ self.old.history)) }
     {
-        readiness::is_started(&self.starts, var)
+        loop {}
     }
 
-    /// The log.
-    pub fn log(&self) -> &Log
-        ensures value { result.now.entries ≡ self.now.log }
-        ensures closed { IsClosedHistory self.now }
-        ensures rest { RestsOnScratch self.now }
-    {
-        &self.log
-    }
+    // ---- looks, which take no memory
 
-    /// The sheet: the builtins, and the rows of the variables. It takes no memory.
+    /// The sheet.
     pub fn sheet(&self) -> &Sheet
-        ensures value { result.now.sheet ≡ (standing self.now).sheet }
-        ensures builtins { result.now.sheet.builtins ≡ self.now.builtins }
+        ensures value { result.now.sheet ≡ (standing self.now.history).sheet }
+        ensures builtins { result.now.sheet.builtins ≡ self.now.history.builtins }
     {
         &self.sheet
     }
 
-    fn allocator(&self) -> Global {
-        self.alloc
+    /// The start of each variable, by number from 1.
+    pub fn starts(&self) -> &Vec<Option<Started>>
+        ensures { result.now.items ≡ (standing self.now.history).starts }
+    {
+        &self.starts
     }
-}
 
-/// Shows what a ready variable shows next.
-fn step(core: &mut Core, var: u32) -> Result<(), AllocError>
-    requires { ready_of (standing core.old) var ≡ true }
-    ensures gains { OnOk result (Gains core.old (next (standing core.old) var) core.new) }
-    ensures fewer { OnOk result (running core.new < running core.old) }
-    ensures err { OnErr result (core.new ≡ core.old) }
-{
-    let start = core.start(var);
-    let work = core.segment(var)?;
-    let done = done_of(core.allocator(), work)?;
-    match core.complete(var, start, done) {
-        Ok(_) => Ok(()),
-        Err((done, refused)) => {
-            drop(done);
-            Err(refused)
-        }
+    /// The tickets, by number from 1.
+    pub fn tickets(&self) -> &Vec<Ticket>
+        ensures { result.now.items ≡ (standing self.now.history).tickets }
+    {
+        &self.tickets
     }
-}
 
-/// Shows the outcomes of what is ready, the least variable first, until nothing is. Where memory runs out, the log keeps
-/// what was shown before: entries of the serial history. It costs one evaluation for each variable that runs.
-pub fn settle(core: &mut Core) -> Result<(), AllocError>
-    ensures ok { OnOk result (Settles core.old core.new) }
-    ensures closed { OnOk result (IsClosedHistory core.new) }
-    ensures rest { OnOk result (RestsOnScratch core.new) }
-    ensures err { OnErr result (SettlesSoFar core.old core.new) }
-{
-    loop {
-        match core.next_ready() {
-            None => return Ok(()),
-            Some(var) => step(core, var)?,
+    /// Whether the notebook is disposed of.
+    pub fn is_disposed(&self) -> bool
+        ensures { result ≡ (standing self.now.history).disposed }
+    {
+        self.disposed
+    }
+
+    /// The log.
+    pub fn log(&self) -> &Log
+        ensures { result.now.entries ≡ self.now.history.log }
+    {
+        &self.log
+    }
+
+    /// The number of entries.
+    pub fn len(&self) -> u64
+        ensures value { result ≡ length self.now.history.log }
+        ensures small { result < 2 ^ 63 }
+    {
+        self.log.len()
+    }
+
+    /// The first of the refusals that meet any event.
+    pub fn gate(&self) -> Option<Refusal>
+        ensures { result ≡ gate_of (standing self.now.history) }
+    {
+        if self.disposed {
+            Some(Refusal::Disposed)
+        } else if self.log.size() > 4_000_000 {
+            Some(Refusal::LogFull)
+        } else {
+            None
         }
     }
 }

@@ -1,6 +1,0 @@
-use Rattle.std.proofs.Common.{◌≡◌}
-use Rattle.nb_core.proofs.Tables.{graph_so_far}
-use Rattle.nb_core.proofs.ties.graph_by_inputs.Given as goal
-
-abbrev pub invariant-loop-i : goal.invariant-loop-i
-invariant-loop-i l = l.graph ≡ graph_so_far l.all l.i

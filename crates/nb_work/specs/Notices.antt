@@ -1,0 +1,40 @@
+-- What the log has of work that is done, and what becomes of the start.
+use Rattle.std.specs.Prelude.{ℕ, ◌≡◌, Bool, List}
+use Rattle.nb_value.specs.declared.value.Value.{Value}
+use Rattle.nb_value.specs.declared.outcome.Outcome.{Outcome}
+use Rattle.nb_value.specs.declared.outcome.Outcome.TheVariants.{Value as Shows, Error as Fails}
+use Rattle.nb_log.specs.declared.entry.Entry.{Entry}
+use Rattle.nb_log.specs.declared.entry.Entry.TheVariants.{Fulfilled, Rejected, Asked, Ended}
+use Rattle.nb_history.specs.Reading.{Reading}
+use Rattle.nb_history.specs.Rules.{next}
+use Rattle.nb_history.specs.Log.{cleanups_now, ends_at_once}
+use Rattle.nb_work.specs.declared.notice.Notice.{Notice}
+use Rattle.nb_work.specs.declared.notice.Notice.TheVariants as notice
+
+-- the entry that shows an outcome
+abbrev pub shown_entry : ℕ → Outcome → Entry
+shown_entry v (Shows x) = Fulfilled v x
+shown_entry v (Fails e) = Rejected v e
+
+-- v's entry at a notice, where the next ticket has the number t
+abbrev pub notice_entry : ℕ → ℕ → Notice → Entry
+notice_entry t v (notice.Shows x cleanups ends) = shown_entry v x
+notice_entry t v (notice.Asks key cleanups) = Asked v t key
+notice_entry t v (notice.Ends cleanups) = Ended v
+
+abbrev pub cleanups_of : Notice → List Value
+cleanups_of (notice.Shows x cleanups ends) = cleanups
+cleanups_of (notice.Asks key cleanups) = cleanups
+cleanups_of (notice.Ends cleanups) = cleanups
+
+-- where an outcome is shown, the generator that ends with it is told from others
+abbrev pub EndsRight : Reading → ℕ → Notice → Type 0
+EndsRight r v (notice.Shows x cleanups ends) = ends ≡ ends_at_once r v
+EndsRight r v (notice.Asks key cleanups) = v ≡ v
+EndsRight r v (notice.Ends cleanups) = v ≡ v
+
+-- the notice of v's next entry, and of its cleanups
+pub record IsNotice (r : Reading) (t v : ℕ) (n : Notice) : Type 0 where
+  pub entry : next r v ≡ notice_entry t v n
+  pub cleanups : cleanups_of n ≡ cleanups_now r v
+  pub ends : EndsRight r v n
