@@ -1,9 +1,9 @@
 -- What a wave holds.
-use Rattle.std.specs.Prelude.{ℕ, ◌≡◌, ◌≤◌, ◌⊎◌, Bool, false, List, [], length, replicate, None}
+use Rattle.std.specs.Prelude.{ℕ, ◌≡◌, ◌≤◌, ◌⊎◌, Bool, false, List, [], length, replicate, Option, Some, None, slice_get}
 use Rattle.nb_wave.specs.declared.footing.Footing.{Footing}
 use Rattle.nb_wave.specs.declared.row.Row.{Row}
 use Rattle.nb_wave.specs.declared.table.Change.{Change}
-use Rattle.nb_wave.specs.Rules.{NeedsVariables}
+use Rattle.nb_wave.specs.Rules.{from_option, NeedsVariables}
 use Rattle.nb_wave.specs.Changes.{put_back}
 
 -- the rows of now, and those that an undo gives back
@@ -28,6 +28,14 @@ no_rows = replicate 1025 unput
 -- a row that is put, with the old one's start
 abbrev pub put_row : Bool → Bool → Footing → List ℕ → Row → Row
 put_row wanted later present needs old = record { wanted = wanted; later = later; present = present; needs = needs; kept = old.kept }
+
+-- a row with a start that rests on this
+abbrev pub kept_row : Footing → Row → Row
+kept_row f r = record r { kept = Some f }
+
+-- what v's start rests on, none while it is idle
+abbrev pub kept_of : List Row → ℕ → Option Footing
+kept_of rows v = from_option None (λ (r : Row). r.kept) (slice_get rows v)
 
 -- a variable's number
 abbrev pub IsNumber : ℕ → Type 0

@@ -1,4 +1,4 @@
-ghost use Rattle.std.specs.Prelude.{◌≡◌, ◌++◌, ◌∷◌, [], IfOk, OnOk, OnErr};
+ghost use Rattle.std.specs.Prelude.{◌≡◌, ◌++◌, ◌∷◌, [], IfOk, OnOk, OnErr, option_copied};
 ghost use Rattle.nb_wave.specs.Rules.{is_behind as behind, is_overtaken as overtaken, is_pulling as pulling, is_leaving as leaving, wants_start as wanting};
 ghost use Rattle.nb_wave.specs.Wave.{unput};
 
@@ -82,6 +82,13 @@ impl Row {
             needs: Vars::new(alloc),
             kept: None,
         }
+    }
+
+    /// What its start rests on, none while it is idle. It takes no memory.
+    pub fn kept(&self) -> Option<&Footing>
+        ensures { option_copied result ≡ self.now.kept }
+    {
+        self.kept.as_ref()
     }
 
     /// A copy of what its start rests on. It fails only without memory.

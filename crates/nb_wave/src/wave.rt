@@ -1,8 +1,8 @@
-ghost use Rattle.std.specs.Prelude.{◌≡◌, ◌≤◌, ◌<◌, ◌+◌, ◌^◌, ℕ, true, false, None, length, replicate, IfOk, IfNone, OnOk, OnErr};
+ghost use Rattle.std.specs.Prelude.{◌≡◌, ◌≤◌, ◌<◌, ◌+◌, ◌^◌, ℕ, true, false, None, length, replicate, option_copied, IfOk, IfNone, OnOk, OnErr};
 ghost use Rattle.nb_graph.specs.Needs.{has};
 ghost use Rattle.nb_wave.specs.Rules.{passes, is_behind, leaving, due, least, may_start, IsSound, NeedsVariables};
 ghost use Rattle.nb_wave.specs.Steps.{changed, Closes};
-ghost use Rattle.nb_wave.specs.Wave.{no_rows, unput, put_row, IsNumber, IsAsMany};
+ghost use Rattle.nb_wave.specs.Wave.{no_rows, unput, put_row, kept_row, kept_of, IsNumber, IsAsMany, IsRows};
 
 use crate::closing::close_all;
 use crate::due;
@@ -66,6 +66,19 @@ fn put_over(
     })
 }
 
+/// A row with a start that rests on this.
+fn keep_over(alloc: Global, old: &Row, kept: Footing) -> Result<Row, AllocError>
+    ensures { IfOk result (λ row. row ≡ kept_row kept old.now) }
+{
+    Ok(Row {
+        wanted: old.wanted,
+        later: old.later,
+        present: old.present.copy(alloc)?,
+        needs: Vars::from_slice(alloc, old.needs.as_slice())?,
+        kept: Some(kept),
+    })
+}
+
 impl Wave {
     /// No variable is wanted, and all are idle. It fails only without memory.
     pub fn new(alloc: Global) -> Result<Wave, AllocError>
@@ -117,10 +130,33 @@ impl Wave {
         Ok(())
     }
 
-    /// Whether a variable is idle, or its footing now isn't the kept one. It takes no memory.
+    /// Says of a variable what its start rests on, which so isn't idle. All else stays. It fails only without memory, and
+    /// then nothing has changed.
+    pub fn keep(&mut self, var: u32, kept: Footing) -> Result<(), AllocError>
+        requires var { IsNumber var }
+        ensures ok { OnOk result (self.new.rows ≡ changed (kept_row kept) var self.old.rows) }
+        ensures marked { OnOk result (self.new.marked ≡ self.old.marked) }
+        ensures err { OnErr result (self.new ≡ self.old) }
+    {
+        let row = keep_over(self.alloc, &self.rows[var as usize], kept)?;
+        replace(&mut self.rows, &mut self.changes, var, row)?;
+        Ok(())
+    }
+
+    /// What a variable's start rests on, none while it is idle. It takes no memory.
+    pub fn kept(&self, var: u32) -> Option<&Footing>
+        requires { IsNumber var }
+        ensures { option_copied result ≡ kept_of self.now.rows var }
+    {
+        self.rows[var as usize].kept()
+    }
+
+    /// Whether a variable is idle, or its footing now isn't the kept one. There is a row for each variable, always. It
+    /// takes no memory.
     pub fn behind(&self, var: u32) -> bool
         requires { IsNumber var }
-        ensures { result ≡ passes is_behind self.now.rows var }
+        ensures value { result ≡ passes is_behind self.now.rows var }
+        ensures rows { IsRows self.now.rows }
     {
         self.rows[var as usize].is_behind()
     }
