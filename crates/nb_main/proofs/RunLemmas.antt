@@ -2,15 +2,16 @@
 use Rattle.std.proofs.Common.{ℕ, zero, suc, ◌≡◌, ◌<◌, ◌≤◌, ◌+◌, refl, sym, ◌∙◌, ap, subst, List, [], ◌∷◌, length, drop, get_or, drop-cons, add-one, arith, Result, Ok, Err, OnOk, IfOk, IfErr}
 use Rattle.nb_value.specs.declared.value.Value.{Value}
 use Rattle.nb_value.specs.declared.pairs.Field.{Field}
-use Rattle.nb_history.specs.Log.{IsLegal}
+use Rattle.nb_history.specs.Log.{IsLegal, NothingReady}
 use Rattle.nb_history.specs.Serial.{IsSerial}
-use Rattle.nb_history.specs.History.{History, IsClosedHistory}
+use Rattle.nb_history.specs.History.{History, standing, IsClosedHistory}
 use Rattle.nb_history.specs.Headline.{IsHistoryOf}
 use Rattle.nb_history.proofs.HistoryThere.{history_alone}
+use Rattle.nb_history.proofs.Shapes.{sound_reading}
+use Rattle.nb_history.proofs.Serials.{none_ready}
 use Rattle.nb_core.proofs.Runs.{IsRun, run_goes_on, run_ends}
 use Rattle.nb_lines.specs.declared.script.ScriptLine.{ScriptLine}
 use Rattle.nb_lines.specs.Lines.{script_lines}
-use Rattle.nb_main.specs.Built.{AddsCell, AllAddCells}
 use Rattle.nb_main.specs.Run.{TakesLine}
 
 -- of the lines, those that are left are still to come, and all that is promised holds so far
@@ -35,15 +36,14 @@ running_goes_on lines left line old new so_far takes closed =
       legal = closed.legal;
     }
 
+-- before the next line nothing is ready
+pub rests_before : (lines left : List ScriptLine) (h : History) → IsRunning lines left h → NothingReady (standing h)
+rests_before lines left h so_far = none_ready (standing h) (sound_reading h.builtins h.log) so_far.run.done
+
 -- the next of the lines that are left
 pub next_line : (lines all : List ScriptLine) (i : ℕ) (d : ScriptLine) (h : History) → i < length all → IsRunning lines (drop i all) h → IsRunning lines (get_or all i d ∷ drop (i + 1) all) h
 next_line lines all i d h below so_far =
     subst (λ (left : List ScriptLine). IsRunning lines left h) (drop-cons all i d below ∙ ap (λ (j : ℕ). get_or all i d ∷ drop j all) (sym (add-one i))) so_far
-
-pub adds_at : (all : List ScriptLine) (i : ℕ) (d : ScriptLine) → AllAddCells all → i < length all → AddsCell (get_or all i d)
-adds_at [] i d h below = absurd (omega (arith, below))
-adds_at (x ∷ xs) zero d h below = h.0
-adds_at (x ∷ xs) (suc i) d h below = adds_at xs i d h.1 (omega (arith, below))
 
 none_left : (all : List ScriptLine) (i : ℕ) → length all ≤ i → drop i all ≡ []
 none_left [] zero h = refl

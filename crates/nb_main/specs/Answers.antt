@@ -4,7 +4,7 @@ use Rattle.std.specs.Io.KnownBytes.{Keeps, Appends, IsAtEnd}
 use Rattle.nb_io.specs.Causes.{Rose}
 use Rattle.nb_io.specs.Streams.{Tells, AppendsFront}
 use Rattle.nb_main.specs.declared.status.Status.{Status}
-use Rattle.nb_main.specs.declared.status.Status.TheVariants.{Ok, Memory, Usage, BadInput, NotBuilt, ReadFault, WriteFault, TooLong}
+use Rattle.nb_main.specs.declared.status.Status.TheVariants.{Ok, Memory, Usage, BadInput, ReadFault, WriteFault, TooLong}
 use Rattle.nb_main.specs.Command.{command}
 use Rattle.nb_main.specs.Outcome.{IsRefusal, IsReadable, IsOutcome}
 
@@ -72,7 +72,6 @@ Answers Ok call = IsDone call
 Answers Memory call = IsGivenUp call
 Answers Usage call = IsNoCommand call
 Answers (BadInput line reason) call = IsRefused call (BadInput line reason)
-Answers (NotBuilt line) call = IsRefused call (NotBuilt line)
 Answers ReadFault call = HasNoInput call
 Answers WriteFault call = IsCutOff call
 Answers (TooLong most) call = IsRefused call (TooLong most)

@@ -3,7 +3,7 @@ use Rattle.std.specs.Prelude.{◌≡◌, ◌⊎◌, ℕ, List, None, IsSome}
 use Rattle.nb_io.specs.Causes.{Rose}
 use Rattle.nb_io.specs.Streams.{Tells}
 use Rattle.nb_main.specs.declared.status.Status.{Status}
-use Rattle.nb_main.specs.declared.status.Status.TheVariants.{Ok, Memory, Usage, BadInput, NotBuilt, ReadFault, WriteFault, TooLong}
+use Rattle.nb_main.specs.declared.status.Status.TheVariants.{Ok, Memory, Usage, BadInput, ReadFault, WriteFault, TooLong}
 use Rattle.nb_lines.specs.declared.script.BadReason.{BadReason}
 use Rattle.nb_main.specs.Command.{command}
 use Rattle.nb_main.specs.Outcome.{IsRefusal, IsReadable}
@@ -18,7 +18,6 @@ pub record Causes (status : Status) (call : Call) : Type 0 where
   pub write_fault : status ≡ WriteFault → Rose call.out.faults_old call.out.faults_new
   -- The input is refused exactly where its bytes are, with the first reason, up to a fault that was told before and want of memory.
   pub too_long : (n : ℕ) (bytes : List ℕ) → Tells call.input.old bytes → status ≡ TooLong n → IsRefusal bytes (TooLong n)
-  pub not_built : (line : ℕ) (bytes : List ℕ) → Tells call.input.old bytes → status ≡ NotBuilt line → IsRefusal bytes (NotBuilt line)
   pub bad_input : (line : ℕ) (reason : BadReason) (bytes : List ℕ) → Tells call.input.old bytes → status ≡ BadInput line reason → IsRefusal bytes (BadInput line reason)
   pub refusal_comes : (reason : Status) (bytes : List ℕ) → Tells call.input.old bytes → IsSome (command call.words) → IsRefusal bytes reason
       → (status ≡ reason) ⊎ ((status ≡ ReadFault) ⊎ (status ≡ Memory))

@@ -1,5 +1,4 @@
 pub mod Command
-pub mod Built
 pub mod Outcome
 pub mod Answers
 pub mod Causes

@@ -10,7 +10,7 @@ use Rattle.nb_lexer.specs.declared.fault.LexError.TheVariants as lex
 use Rattle.nb_parser.specs.declared.error.ParseError.{ParseError}
 use Rattle.nb_parser.specs.declared.error.ParseError.TheVariants as parse
 use Rattle.nb_main.specs.declared.status.Status.{Status}
-use Rattle.nb_main.specs.declared.status.Status.TheVariants.{Ok, Memory, Usage, BadInput, NotBuilt, ReadFault, WriteFault, TooLong}
+use Rattle.nb_main.specs.declared.status.Status.TheVariants.{Ok, Memory, Usage, BadInput, ReadFault, WriteFault, TooLong}
 
 -- What the lexer finds fault with, and where.
 abbrev pub lex_word : LexError → List ℕ
@@ -87,7 +87,6 @@ note Ok = []
 note Memory = codes "notebook: out of memory\n"
 note Usage = codes "notebook: usage: notebook run [FILE] | workers N [FILE] | make N SEED\n"
 note (BadInput line r) = bad_line line r
-note (NotBuilt line) = codes "notebook: line " ++ decimal line ++ codes ": NotBuilt\n"
 note ReadFault = codes "notebook: read fault\n"
 note WriteFault = codes "notebook: write fault\n"
 note (TooLong limit) = codes "notebook: more than " ++ decimal limit ++ codes " bytes\n"
@@ -102,7 +101,6 @@ number Ok = 0
 number Memory = 1
 number Usage = 2
 number (BadInput line r) = 3
-number (NotBuilt line) = 3
 number ReadFault = 4
 number WriteFault = 5
 number (TooLong limit) = 7

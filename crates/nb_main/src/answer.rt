@@ -1,7 +1,6 @@
 ghost use Rattle.std.specs.Prelude.{◌≤◌, length};
 ghost use Rattle.nb_main.specs.Outcome.{limit, IsAnswer};
 
-use crate::built::first_not_built;
 use crate::history::history;
 use nb_lines::{BadReason, LineFail, read_lines};
 use nb_print::print;
@@ -16,8 +15,6 @@ pub const LIMIT: usize = 4_194_304;
 pub enum Refused {
     /// The first line that is bad, and its first reason.
     Bad { line: u32, reason: BadReason },
-    /// The first line that isn't built.
-    NotBuilt(usize),
     /// Memory ran out.
     Memory,
 }
@@ -53,9 +50,6 @@ pub fn answer(alloc: Global, bytes: &[u8]) -> Result<Bytes, Refused>
     ensures { IsAnswer bytes.now result }
 {
     let lines = read_lines(alloc, bytes)?;
-    if let Some(number) = first_not_built(bytes, &lines) {
-        return Err(Refused::NotBuilt(number));
-    }
     let core = history(alloc, &lines)?;
     let text = print(alloc, &core)?;
     Ok(text)

@@ -72,7 +72,6 @@ fn run<S: Source, K: Sink>(alloc: Global, words: &Words, input: &mut S, out: &mu
     let text = match answer(alloc, bytes.as_slice()) {
         Ok(text) => text,
         Err(Refused::Bad { line, reason }) => return Status::BadInput(line, reason),
-        Err(Refused::NotBuilt(line)) => return Status::NotBuilt(line),
         Err(Refused::Memory) => return Status::Memory,
     };
     match write_whole(out, text.as_slice()) {

@@ -1,10 +1,9 @@
-ghost use Rattle.std.specs.Prelude.{◌≡◌, [], IfOk, IfErr, OnOk};
+ghost use Rattle.std.specs.Prelude.{◌≡◌, ◌<◌, [], All, IfOk, IfErr, OnOk};
 ghost use Rattle.nb_history.specs.Headline.{IsHistoryOf};
 ghost use Rattle.nb_history.specs.History.{IsClosedHistory, standing};
-ghost use Rattle.nb_history.specs.Log.{admit};
+ghost use Rattle.nb_history.specs.Log.{admit, NothingReady};
 ghost use Rattle.nb_core.specs.Core.{Gains};
 ghost use Rattle.nb_lines.specs.Lines.{script_lines};
-ghost use Rattle.nb_main.specs.Built.{AddsCell, AllAddCells};
 ghost use Rattle.nb_main.specs.Run.{TakesLine};
 
 use nb_core::{Core, settle};
@@ -16,7 +15,7 @@ use std::mem::drop;
 
 /// The machine after the lines, each taken once the log rests: its log is their serial history.
 pub fn history(alloc: Global, lines: &Scripts) -> Result<Core, AllocError>
-    requires { AllAddCells lines.now }
+    requires { All (λ s. s.editor < 8) lines.now }
     ensures builtins { IfOk result (λ core. core.builtins ≡ []) }
     ensures history { IfOk result (λ core. IsHistoryOf [] [] (script_lines lines.now) [] core.log) }
 {
@@ -27,9 +26,10 @@ pub fn history(alloc: Global, lines: &Scripts) -> Result<Core, AllocError>
     Ok(core)
 }
 
-/// Takes a line, and then does all work that is ready.
+/// Takes a line where nothing is ready, and then does all work that is ready.
 fn take_line(alloc: Global, core: &mut Core, line: &ScriptLine) -> Result<(), AllocError>
-    requires { AddsCell line.now }
+    requires low { line.now.editor < 8 }
+    requires rest { NothingReady (standing core.old) }
     ensures takes { OnOk result (TakesLine core.old line.now core.new) }
     ensures closed { OnOk result (IsClosedHistory core.new) }
 {
@@ -40,7 +40,8 @@ fn take_line(alloc: Global, core: &mut Core, line: &ScriptLine) -> Result<(), Al
 
 /// Takes a line's event.
 fn add_line(alloc: Global, core: &mut Core, line: &ScriptLine) -> Result<(), AllocError>
-    requires { AddsCell line.now }
+    requires low { line.now.editor < 8 }
+    requires rest { NothingReady (standing core.old) }
     ensures { OnOk result (Gains core.old (admit (standing core.old) line.now.editor line.now.event) core.new) }
 {
     let event = line.event.copy(alloc)?;

@@ -24,10 +24,6 @@ pub fn tell<E: Sink>(notes: &mut E, status: &Status) -> Result<(), Failed>
             b"notebook: usage: notebook run [FILE] | workers N [FILE] | make N SEED\n",
         ),
         Status::BadInput(line, reason) => tell_bad_line(notes, *line, reason),
-        Status::NotBuilt(line) => {
-            let line = digits.format(*line).as_bytes();
-            write_pieces(notes, &[b"notebook: line ", line, b": NotBuilt\n"])
-        }
         Status::ReadFault => write_whole(notes, b"notebook: read fault\n"),
         Status::WriteFault => write_whole(notes, b"notebook: write fault\n"),
         Status::TooLong(most) => {

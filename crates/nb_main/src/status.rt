@@ -11,8 +11,6 @@ pub enum Status {
     Usage,
     /// The first line of the input that is bad, by its number from 1, and its first reason.
     BadInput(u32, BadReason),
-    /// The first line that isn't built yet, by its number from 1.
-    NotBuilt(usize),
     /// A read of the input failed.
     ReadFault,
     /// A write failed.
@@ -34,7 +32,6 @@ impl Status {
             Status::Memory => 1,
             Status::Usage => 2,
             Status::BadInput(_, _) => 3,
-            Status::NotBuilt(_) => 3,
             Status::ReadFault => 4,
             Status::WriteFault => 5,
             Status::TooLong(_) => 7,

@@ -6,8 +6,8 @@ use Rattle.nb_core.specs.Core.{Gains}
 use Rattle.nb_main.proofs.RunLemmas.{gains_of}
 use Rattle.nb_main.proofs.history.add_line.Goals as goal
 
-pub event-requires-clause-form : goal.event-requires-clause-form
-event-requires-clause-form c = (c.requires.1.0, c.in_ok-event.ensures ∙ c.requires.1.1, c.requires.1.2)
+pub event-requires-clause-rest : goal.event-requires-clause-rest
+event-requires-clause-rest c = λ _. c.requires.rest
 
 pub returns : goal.returns
 returns c =

@@ -1,19 +1,21 @@
-use Rattle.std.proofs.Common.{◌<◌, ◌≤◌, sym, subst, List, length, [], arith}
+use Rattle.std.proofs.Common.{◌<◌, ◌≤◌, sym, subst, List, length, drop, [], arith, All}
 use Rattle.nb_lines.specs.declared.script.ScriptLine.{ScriptLine}
 use Rattle.nb_lines.specs.Lines.{script_lines}
-use Rattle.nb_main.specs.Built.{AddsCell, AllAddCells}
 use Rattle.nb_history.specs.Headline.{IsHistoryOf}
-use Rattle.nb_main.proofs.RunLemmas.{begins_here, turn, running_ends, adds_at}
+use Rattle.nb_main.proofs.RunLemmas.{begins_here, turn, running_ends, rests_before}
 use Rattle.nb_main.proofs.history.history.Goals as goal
 
 pub loop-line-init : goal.loop-line-init
 loop-line-init c = begins_here c.as_slice-line-items.result.now c.in_ok-core.core c.new.result c.new.ensures c.in_ok-core.ensures
 
-pub take_line-requires : goal.take_line-requires
-take_line-requires c =
+pub take_line-requires-clause-low : goal.take_line-requires-clause-low
+take_line-requires-clause-low c =
     let inside : c.loop-line.line-index < length c.as_slice-line-items.result.now = omega arith in
-    subst AddsCell (sym c.line-item.is)
-    (adds_at c.as_slice-line-items.result.now c.loop-line.line-index c.line-item.result (subst AllAddCells (sym c.as_slice-line-items.ensures) c.requires) inside)
+    subst (λ (line : ScriptLine). line.editor < 8) (sym c.line-item.is)
+    (subst (All (λ s. s.editor < 8)) (sym c.as_slice-line-items.ensures) c.requires c.loop-line.line-index c.line-item.result inside)
+
+pub take_line-requires-clause-rest : goal.take_line-requires-clause-rest
+take_line-requires-clause-rest c = rests_before c.as_slice-line-items.result.now (drop c.loop-line.line-index c.as_slice-line-items.result.now) c.loop-line.core c.loop-line.invariant
 
 pub loop-line-preserved : goal.loop-line-preserved
 loop-line-preserved c =
