@@ -1,52 +1,44 @@
-//! A machine with nothing in it, one that is full, and work that an edit makes stale.
-ghost use Rattle.std.specs.Prelude.{IfOk};
-ghost use Rattle.nb_core.specs.Core.{IsAddedCell};
-
+//! A machine with nothing in it, one that is full, work that an edit makes stale, and a loader's answer.
 use nb_core::{Core, Placed, Shown, settle};
 use nb_eval::{Work, WorkDone, evaluate};
 use nb_log::{Entry, Event, Refusal, push_entries};
 use nb_parser::parse_cell;
 use nb_sheet::Edit;
-use nb_syntax::{Cell, is_plain};
-use nb_value::{Bytes, ErrorKind, Pairs};
+use nb_syntax::Cell;
+use nb_value::{Answer, Bytes, Pairs, Value};
 use std::alloc::Global;
 use std::mem::drop;
 use std::test::Fail;
 
-fn cell(alloc: Global, text: &str) -> Result<Cell, Fail> {
+pub fn cell(alloc: Global, text: &str) -> Result<Cell, Fail> {
     match parse_cell(alloc, text) {
         Ok(cell) => Ok(cell),
         Err(_) => Err("refused".into()),
     }
 }
 
-// The event of an added cell.
-fn added(alloc: Global, text: &str) -> Result<Event, Fail>
-    ensures { IfOk result (λ event. IsAddedCell event) }
-{
-    let cell = cell(alloc, text)?;
-    if is_plain(&cell) {
-        Ok(Event::Edit(Edit::AddCell {
-            module: 0,
-            cell,
-            observed: true,
-        }))
-    } else {
-        drop(cell);
-        Err("not plain".into())
-    }
-}
-
-// The place of the entry of an added cell.
-fn add(alloc: Global, core: &mut Core, text: &str) -> Result<u64, Fail> {
-    let event = added(alloc, text)?;
-    match core.event(0, event) {
+// The place of an edit's entry.
+pub fn edit(core: &mut Core, edit: Edit) -> Result<u64, Fail> {
+    match core.event(0, Event::Edit(edit)) {
         Ok(place) => Ok(place),
         Err(back) => {
             drop(back);
             Err("memory".into())
         }
     }
+}
+
+// The place of the entry of an added cell.
+pub fn add(alloc: Global, core: &mut Core, text: &str) -> Result<u64, Fail> {
+    let cell = cell(alloc, text)?;
+    edit(
+        core,
+        Edit::AddCell {
+            module: 0,
+            cell,
+            observed: true,
+        },
+    )
 }
 
 fn done_of(alloc: Global, work: Work) -> Result<WorkDone, Fail> {
@@ -73,11 +65,15 @@ fn first_done(alloc: Global, core: &Core) -> Result<WorkDone, Fail> {
     }
 }
 
-// What the work that was done of a first definition comes to, after a second one.
+// What work comes to that was done of a variable's first definition, after its second one.
 fn outdated(alloc: Global, core: &mut Core) -> Result<Placed, Fail> {
     add(alloc, core, "x = 1")?;
     let done = first_done(alloc, core)?;
-    let second = add(alloc, core, "x = 2");
+    let cell = cell(alloc, "x = 2");
+    let second = match cell {
+        Ok(cell) => edit(core, Edit::Define { variable: 1, cell }),
+        Err(fail) => Err(fail),
+    };
     let placed = core.complete(1, 2, done);
     second?;
     match placed {
@@ -89,9 +85,9 @@ fn outdated(alloc: Global, core: &mut Core) -> Result<Placed, Fail> {
     }
 }
 
-fn is_defined_twice(shown: Shown<'_>) -> bool {
+fn is_number(shown: Shown<'_>, n: i64) -> bool {
     match shown {
-        Shown::Error(error) => error.kind == ErrorKind::DefinedTwice,
+        Shown::Value(Value::Int(m)) => *m == n,
         _ => false,
     }
 }
@@ -104,13 +100,45 @@ fn a_second_definition_makes_work_stale(rt: HostRuntime) -> Result<(), Fail> {
     assert_eq!(rt; placed, Placed::Stale { held: 2, now: 4 });
     assert!(rt; matches!(core.shown(1), Shown::Waiting));
     settle(&mut core)?;
-    let twice = [
-        is_defined_twice(core.shown(1)),
-        is_defined_twice(core.shown(2)),
-        matches!(core.shown(3), Shown::Idle),
-    ];
-    assert_eq!(rt; twice, [true, true, true]);
-    assert_eq!(rt; core.log().len(), 7);
+    assert!(rt; is_number(core.shown(1), 2));
+    assert!(rt; matches!(core.shown(2), Shown::Idle));
+    assert_eq!(rt; core.log().len(), 5);
+    Ok(())
+}
+
+// The place of a loader's answer of 5 to the least live ticket, and its key.
+fn answer_of_five(core: &mut Core) -> Result<u64, Fail> {
+    if !core.loadable() {
+        return Err("not loadable".into());
+    }
+    let ticket = match core.live_ticket(0) {
+        None => return Err("nothing is asked for".into()),
+        Some((ticket, key)) if key.as_str() == "k" => ticket,
+        Some(_) => return Err("another key".into()),
+    };
+    match core.loaded(ticket, Answer::Value(Value::Int(5))) {
+        Ok(place) => Ok(place),
+        Err(back) => {
+            drop(back);
+            Err("memory".into())
+        }
+    }
+}
+
+#[test]
+fn a_loader_answers_a_fetch(rt: HostRuntime) -> Result<(), Fail> {
+    let alloc = rt.alloc();
+    let mut core = Core::new(alloc, Pairs::new(alloc))?;
+    add(alloc, &mut core, "x = fetch(\"k\") + 1")?;
+    assert!(rt; !core.loadable());
+    assert_eq!(rt; core.ready_from(1), Some(1));
+    assert_eq!(rt; core.ready_from(2), None);
+    settle(&mut core)?;
+    let place = answer_of_five(&mut core)?;
+    assert_eq!(rt; place, 4);
+    assert!(rt; core.live_ticket(0).is_none());
+    settle(&mut core)?;
+    assert!(rt; is_number(core.shown(1), 6));
     Ok(())
 }
 
