@@ -1,5 +1,5 @@
 -- A log over builtins.
-use Rattle.std.specs.Prelude.{◌≡◌, List, None}
+use Rattle.std.specs.Prelude.{◌≡◌, List, [], ◌∷◌, ◌++◌, None}
 use Rattle.nb_value.specs.declared.value.Value.{Value}
 use Rattle.nb_value.specs.declared.pairs.Field.{Field}
 use Rattle.nb_log.specs.declared.entry.Entry.{Entry}
@@ -14,6 +14,13 @@ pub record History : Type 0 where
 -- what stands after the log
 abbrev pub standing : History → Reading
 standing h = reading h.builtins h.log
+
+-- with one more entry at the log's end, and with these entries
+abbrev pub plus : History → Entry → History
+plus h e = record h { log = h.log ++ e ∷ [] }
+
+abbrev pub plus_all : History → List Entry → History
+plus_all h es = record h { log = h.log ++ es }
 
 -- each entry fits what stands before it, and nothing is leaving or due in the end
 pub record IsClosedHistory (h : History) : Type 0 where
