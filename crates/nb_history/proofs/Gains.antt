@@ -3,17 +3,16 @@ use Rattle.std.proofs.Common.{ℕ, ◌≡◌, ◌<◌, ◌≤◌, refl, arith, s
 use Rattle.std.proofs.lemmas.Bool.{false≢true, false_from_ne_true}
 use Rattle.nb_value.specs.declared.value.Value.{Value}
 use Rattle.nb_value.specs.declared.pairs.Field.{Field}
-use Rattle.nb_value.specs.declared.outcome.Answer.{Answer}
 use Rattle.nb_sheet.specs.Lists.{numbers}
 use Rattle.nb_log.specs.declared.entry.Entry.{Entry}
-use Rattle.nb_log.specs.declared.entry.Entry.TheVariants.{Loaded}
 use Rattle.nb_history.specs.Reading.{Reading}
 use Rattle.nb_history.specs.Rules.{leaving, may_start, ready, next}
 use Rattle.nb_history.specs.Log.{nothing_yet, after, read_from, Fits, LegalFrom, IsQuiet}
 use Rattle.nb_history.specs.Serial.{least_var, closing, Closes}
 use Rattle.nb_history.specs.Work.{to_do}
 use Rattle.nb_history.specs.Ends.{IsBetween}
-use Rattle.nb_history.specs.History.{History, standing, plus_all, IsClosedHistory}
+use Rattle.nb_history.specs.Quiet.{may_open}
+use Rattle.nb_history.specs.History.{History, standing, plus, plus_all, IsClosedHistory}
 use Rattle.nb_history.proofs.Closing.{first_some, closing_none}
 use Rattle.nb_history.proofs.Histories.{legal_append, closes_legal, closed_in_the_end}
 use Rattle.nb_history.proofs.Shapes.{sound_reading}
@@ -22,6 +21,7 @@ use Rattle.nb_history.proofs.NextEntry.{next_outcome, next_fits}
 use Rattle.nb_history.proofs.EntryKinds.{outcome_is, of_variable_between}
 use Rattle.nb_history.proofs.Runs.{may_due}
 use Rattle.nb_history.proofs.ToDo.{Fit, fit_after, fit_log, uses_up, run_less}
+use Rattle.nb_history.proofs.QuietEntries.{stays_quiet}
 use Rattle.nb_history.proofs.Plus.{standing_plus_all}
 
 -- ---- where nothing is leaving or due, nothing closes
@@ -70,6 +70,16 @@ module _ (old new : History) (e : Entry) (es : List Entry) (closed : IsClosedHis
       let rest : to_do (read_from (after r e) es) ≤ to_do (after r e) = run_less (after r e) es (fit_after r e fit fits) (all_closing (after r e) es closes) (closes_legal (after r e) es closes) in
       let end : to_do (standing new) ≡ to_do (read_from (after r e) es) = ap (λ (h : History). to_do (standing h)) is ∙ ap to_do (standing_plus_all old (e ∷ es)) in
       omega (arith, here, rest, end)
+
+-- ---- an entry after which nothing closes
+
+module _ (old new : History) (e : Entry) (closed : IsClosedHistory old) (fits : Fits (standing old) e) where
+  pub one_closed : IsQuiet (after (standing old) e) → new ≡ plus old e → IsClosedHistory new
+  one_closed quiet = gains_closed old new e [] closed fits (nothing_closes (after (standing old) e) quiet)
+
+  -- as it is of each that opens nothing
+  pub stays_closed : may_open e ≡ false → new ≡ plus old e → IsClosedHistory new
+  stays_closed shut = one_closed (stays_quiet (standing old) e shut closed.quiet)
 
 -- ---- the next entry of a ready variable
 

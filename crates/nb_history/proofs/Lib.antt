@@ -60,3 +60,4 @@ pub mod Quiets
 pub mod QuietEntries
 pub mod Pulls
 pub mod Gains
+pub mod LiveTickets
