@@ -9,5 +9,4 @@ pub mod Calm
 pub mod Changing
 pub mod Runs
 pub mod Closings
-pub mod Ascending
 pub mod Reversed

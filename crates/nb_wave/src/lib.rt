@@ -8,8 +8,6 @@ mod row;
 mod step;
 mod steps;
 mod table;
-#[cfg(test)]
-mod tests;
 mod users;
 mod wave;
 
