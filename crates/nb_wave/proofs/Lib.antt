@@ -10,3 +10,5 @@ pub mod Changing
 pub mod Runs
 pub mod Closings
 pub mod Reversed
+pub mod QuickStarts
+pub mod QuickLoops

@@ -5,3 +5,4 @@ pub mod Steps
 pub mod Changes
 pub mod Wave
 pub mod Users
+pub mod QuickRows

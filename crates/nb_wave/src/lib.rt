@@ -4,6 +4,7 @@
 mod closing;
 mod due;
 mod footing;
+mod quick;
 mod row;
 mod step;
 mod steps;
