@@ -8,11 +8,11 @@ use Rattle.nb_graph.proofs.Reaches.{any_has, has_any, needed_sound, needed_compl
 use Rattle.nb_wave.specs.declared.footing.Footing.{Footing}
 use Rattle.nb_wave.specs.declared.row.Row.{Row}
 use Rattle.nb_wave.specs.Footings.{same_footing}
-use Rattle.nb_wave.specs.Rules.{from_option, is_idle, is_behind, is_leaving, is_circular, is_overtaken, wants_start, passes, needs_of, numbers, needed, rests_on, pulls_on, held, due, may_start, leaving, NeedsVariables, IsSound}
+use Rattle.nb_wave.specs.Rules.{from_option, is_wanted, is_idle, is_behind, is_leaving, is_circular, is_overtaken, wants_start, passes, needs_of, numbers, needed, rests_on, pulls_on, held, due, may_start, leaving, NeedsVariables, IsSound}
 use Rattle.nb_wave.specs.Steps.{resting, rested, ended, begun, stepped}
 use Rattle.nb_wave.proofs.Numbers.{same_footing_refl}
 use Rattle.nb_wave.proofs.Spreads.{needs_within}
-use Rattle.nb_wave.proofs.Stepped.{resting_other, resting_none, mild_begun, mild_ended, is_wanted, is_plain, get_stepped_same, get_stepped_other, wanted_stepped, plain_stepped, needed_stepped, Comes, comes}
+use Rattle.nb_wave.proofs.Stepped.{resting_other, resting_none, mild_begun, mild_ended, is_plain, get_stepped_same, get_stepped_other, wanted_stepped, plain_stepped, needed_stepped, Comes, comes}
 
 -- ---- passing
 
@@ -24,7 +24,7 @@ passes_row test rows v h = go (slice_get rows v) refl
     go None e = absurd (false≢true (ap (from_option false test) (sym e) ∙ h))
     go (Some r) e = (r, e, ap (from_option false test) (sym e) ∙ h)
 
-passes_at : (test : Row → Bool) (rows : List Row) (v : ℕ) (r : Row) → slice_get rows v ≡ Some r → passes test rows v ≡ test r
+pub passes_at : (test : Row → Bool) (rows : List Row) (v : ℕ) (r : Row) → slice_get rows v ≡ Some r → passes test rows v ≡ test r
 passes_at test rows v r e = ap (from_option false test) e
 
 passes_and : (p q : Row → Bool) (rows : List Row) (v : ℕ) → passes (λ r. p r && q r) rows v ≡ (passes p rows v && passes q rows v)
@@ -70,7 +70,7 @@ held_above rows n v w need h =
     ]))
 
 -- a plain variable isn't circular
-plain_not_circular : (r : Row) → is_plain r ≡ true → is_circular r ≡ false
+pub plain_not_circular : (r : Row) → is_plain r ≡ true → is_circular r ≡ false
 plain_not_circular r h = let e : Footing.mark r.present ≡ 0 = eqb-true (Footing.mark r.present) 0 h in ap (λ (m : ℕ). eqb m 2) e
 
 -- nothing that a plain variable needs wants a start, where it may start
@@ -118,7 +118,7 @@ module _ (rows : List Row) (n : NeedsVariables rows) (sound : IsSound rows) (u p
             resting_none u place r (sound.starts w r at m) (sound.renewals w r at m)
       ]
 
-  behind_apart : (w : ℕ) → u ≢ w → (passes is_plain rows w ≡ true → has (needs_of rows w) u ≡ false) → passes is_behind (stepped begun u place rows) w ≡ passes is_behind rows w
+  pub behind_apart : (w : ℕ) → u ≢ w → (passes is_plain rows w ≡ true → has (needs_of rows w) u ≡ false) → passes is_behind (stepped begun u place rows) w ≡ passes is_behind rows w
   behind_apart w other apart = go (slice_get rows w) refl
     where
       go : (o : Option Row) → slice_get rows w ≡ o → passes is_behind (stepped begun u place rows) w ≡ passes is_behind rows w
@@ -136,7 +136,7 @@ module _ (rows : List Row) (n : NeedsVariables rows) (sound : IsSound rows) (u p
               none_there None k = ap (from_option false is_behind) k ∙ sym (ap (from_option false is_behind) e)
               none_there (Some x) k = let t : Comes begun mild_begun u place rows w x = comes begun mild_begun u place rows w x k in let at : slice_get rows w ≡ Some t.old = t.at in cc
 
-  wants_apart : (w : ℕ) → u ≢ w → (passes is_plain rows w ≡ true → has (needs_of rows w) u ≡ false) → passes wants_start (stepped begun u place rows) w ≡ passes wants_start rows w
+  pub wants_apart : (w : ℕ) → u ≢ w → (passes is_plain rows w ≡ true → has (needs_of rows w) u ≡ false) → passes wants_start (stepped begun u place rows) w ≡ passes wants_start rows w
   wants_apart w other apart =
       wants_parts (stepped begun u place rows) w
       ∙ ap (λ (b : Bool). b && passes is_behind (stepped begun u place rows) w) (wanted_stepped begun mild_begun u place rows w)

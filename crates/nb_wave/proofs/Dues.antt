@@ -42,10 +42,10 @@ held_marks rows n overtaken new p o s v inside =
 
 -- ---- what is needed is needed through a direct need
 
-abbrev Through : List Row → ℕ → ℕ → Type 0
+abbrev pub Through : List Row → ℕ → ℕ → Type 0
 Through rows v w = (u : ℕ) × (has (needs_of rows v) u ≡ true) × ((u ≡ w) ⊎ Needs (needs_of rows) u w)
 
-needs_first : (rows : List Row) {v w : ℕ} → Needs (needs_of rows) v w → Through rows v w
+pub needs_first : (rows : List Row) {v w : ℕ} → Needs (needs_of rows) v w → Through rows v w
 needs_first rows {v} {w} (at_once h) = (w, h, inl refl)
 needs_first rows {v} {w} (through {w = x} n h) =
     let t : Through rows v x = needs_first rows n in

@@ -9,5 +9,6 @@ pub mod Calm
 pub mod Changing
 pub mod Runs
 pub mod Closings
-pub mod Ascending
 pub mod Reversed
+pub mod QuickStarts
+pub mod QuickLoops

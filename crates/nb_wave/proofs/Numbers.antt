@@ -4,7 +4,7 @@ use Rattle.std.proofs.lemmas.Bool.{and_parts, and_from, eqb-true, eq-eqb, false�
 use Rattle.nb_wave.specs.declared.footing.Footing.{Footing}
 use Rattle.nb_wave.specs.Footings.{same_numbers, same_base, same_footing}
 
-same_numbers_eq : (xs ys : List ℕ) → same_numbers xs ys ≡ true → xs ≡ ys
+pub same_numbers_eq : (xs ys : List ℕ) → same_numbers xs ys ≡ true → xs ≡ ys
 same_numbers_eq [] [] h = refl
 same_numbers_eq [] (y ∷ ys) h = absurd (false≢true h)
 same_numbers_eq (x ∷ xs) [] h = absurd (false≢true h)

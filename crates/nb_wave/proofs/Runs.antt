@@ -9,18 +9,18 @@ use Rattle.nb_graph.proofs.Reaches.{passing, passing_le, passing_more, Same, has
 use Rattle.nb_wave.specs.declared.row.Row.{Row}
 use Rattle.nb_wave.specs.declared.step.Step.{Step}
 use Rattle.nb_wave.specs.declared.step.Step.TheVariants.{Left, Pending}
-use Rattle.nb_wave.specs.Rules.{from_option, is_behind, is_leaving, is_circular, wants_start, passes, needs_of, numbers, needed, leaving, due, may_start, first_where, least, NeedsVariables, IsSound}
+use Rattle.nb_wave.specs.Rules.{from_option, is_wanted, is_behind, is_leaving, is_circular, wants_start, passes, needs_of, numbers, needed, leaving, due, may_start, first_where, least, NeedsVariables, IsSound}
 use Rattle.nb_wave.specs.Steps.{ended, begun, stepped, after, next_of, next_pending, next_step, Runs, pending_count, Closes}
 use Rattle.nb_wave.specs.Wave.{IsRows}
 use Rattle.nb_wave.proofs.Places.{least_none}
 use Rattle.nb_wave.proofs.Spreads.{needs_within, has_numbers}
 use Rattle.nb_wave.proofs.Dues.{needed_number}
-use Rattle.nb_wave.proofs.Stepped.{mild_begun, mild_ended, is_wanted, is_plain, numbers_stepped, wanted_stepped, rows_stepped, sound_stepped}
+use Rattle.nb_wave.proofs.Stepped.{mild_begun, mild_ended, is_plain, numbers_stepped, wanted_stepped, rows_stepped, sound_stepped}
 use Rattle.nb_wave.proofs.Calm.{passes_row, due_wants, due_wanted, due_behind, may_due, Calm, calm_self, calm_other, leaving_begun, leaving_ended}
 
 -- ---- the least
 
-range_has : (a n u : ℕ) → has (range_with_len a n) u ≡ true → (a ≤ u) × (u < a + n)
+pub range_has : (a n u : ℕ) → has (range_with_len a n) u ≡ true → (a ≤ u) × (u < a + n)
 range_has a zero u h = absurd (false≢true h)
 range_has a (suc n) u h =
     elim (has_cases a (range_with_len (a + 1) n) u h) [

@@ -9,7 +9,7 @@ use mathlib.Core.Path.{fun_ext}
 use Rattle.nb_graph.specs.Needs.{has, Needs, all_needed}
 use Rattle.nb_wave.specs.declared.footing.Footing.{Footing}
 use Rattle.nb_wave.specs.declared.row.Row.{Row}
-use Rattle.nb_wave.specs.Rules.{from_option, passes, needs_of, numbers, needed, IsSound}
+use Rattle.nb_wave.specs.Rules.{from_option, is_wanted, passes, needs_of, numbers, needed, IsSound}
 use Rattle.nb_wave.specs.Steps.{renumbered, resting, rested, ended, begun, changed, stepped}
 use Rattle.nb_wave.specs.Wave.{IsRows}
 
@@ -90,9 +90,6 @@ mild_ended = record { wanted = λ r. refl; needs = λ r. refl; present = λ r. r
 
 pub mild_begun : Mild begun
 mild_begun = record { wanted = λ r. refl; needs = λ r. refl; present = λ r. refl }
-
-abbrev pub is_wanted : Row → Bool
-is_wanted r = r.wanted
 
 -- it has no mark
 abbrev pub is_plain : Row → Bool

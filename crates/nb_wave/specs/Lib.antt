@@ -4,5 +4,5 @@ pub mod Marks
 pub mod Steps
 pub mod Changes
 pub mod Wave
-pub mod Ascends
 pub mod Users
+pub mod QuickRows

@@ -13,6 +13,9 @@ from_option d f (Some x) = f x
 
 -- ---- of a row
 
+abbrev pub is_wanted : Row → Bool
+is_wanted r = r.wanted
+
 abbrev pub is_idle : Row → Bool
 is_idle r = not (is_some r.kept)
 

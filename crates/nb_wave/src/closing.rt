@@ -9,11 +9,12 @@ ghost use Rattle.nb_wave.specs.Users.{IsReversed};
 ghost use Rattle.nb_wave.specs.Wave.{IsRows};
 
 use crate::due::next_leaving;
+use crate::quick::{are_quick, start_quickly};
 use crate::row::Row;
 use crate::step::Step;
 use crate::steps::{begin, leave};
 use crate::table::Change;
-use crate::users::{next_start, users};
+use crate::users::{near, next_start, users};
 use nb_graph::Graph;
 use std::alloc::{AllocError, Global};
 
@@ -71,6 +72,37 @@ fn start_all(
     Ok(())
 }
 
+/// The same, with the marks of what starts taken once where that can be, and then each start takes a pass over marks and
+/// what it changes.
+fn start_each(
+    alloc: Global,
+    rows: &mut Vec<Row>,
+    changes: &mut Vec<Change>,
+    users: &Graph,
+    place: u64,
+    steps: &mut Vec<Step>,
+) -> Result<(), AllocError>
+    requires rows { IsRows rows.old.items }
+    requires users { IsReversed rows.old.items users.now }
+    requires sound { IsSound rows.old.items }
+    requires none { least leaving rows.old.items ≡ None }
+    requires fits { place + 1024 < 2 ^ 64 }
+    ensures runs { OnOk result ((first : List RowValue) (p : ℕ) → p + length steps.old.items ≡ place → Runs first p steps.old.items rows.old.items
+        → Runs first p steps.new.items rows.new.items) }
+    ensures rows { OnOk result (IsRows rows.new.items) }
+    ensures sound { OnOk result (IsSound rows.new.items) }
+    ensures ends { OnOk result (next_step rows.new.items ≡ None) }
+    ensures since { IsSince changes.old.items rows.old.items changes.new.items rows.new.items }
+{
+    let mut near = near(alloc, users, rows)?;
+    if are_quick(rows, &near, place) {
+        start_quickly(alloc, rows, changes, &mut near, place, steps)?;
+    } else {
+        start_all(alloc, rows, changes, users, place, steps)?;
+    }
+    Ok(())
+}
+
 /// The steps from this place on, until nothing is leaving or due.
 pub fn close_all(
     alloc: Global,
@@ -88,6 +120,6 @@ pub fn close_all(
     let mut steps = leave_all(alloc, rows, changes)?;
     let start = place + steps.len() as u64;
     let users = users(alloc, rows)?;
-    start_all(alloc, rows, changes, &users, start, &mut steps)?;
+    start_each(alloc, rows, changes, &users, start, &mut steps)?;
     Ok(steps)
 }

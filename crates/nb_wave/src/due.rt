@@ -54,7 +54,7 @@ fn mark_none(rows: &[Row], marks: &mut [bool])
 }
 
 /// Whether any of these is marked.
-fn any_marked(vars: &[u32], marks: &[bool]) -> bool
+pub fn any_marked(vars: &[u32], marks: &[bool]) -> bool
     requires { (u : ℕ) → has vars.now u ≡ true → u < length marks.now }
     ensures { result ≡ list_any (marked marks.now) vars.now }
 {

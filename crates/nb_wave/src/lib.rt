@@ -4,12 +4,11 @@
 mod closing;
 mod due;
 mod footing;
+mod quick;
 mod row;
 mod step;
 mod steps;
 mod table;
-#[cfg(test)]
-mod tests;
 mod users;
 mod wave;
 

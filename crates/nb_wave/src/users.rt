@@ -131,6 +131,20 @@ fn due(alloc: Global, rows: &[Row], held: &[bool]) -> Result<Vec<bool>, AllocErr
     Ok(marks)
 }
 
+/// Marks the variables that are due, and all that need one, in time linear in variables and needs.
+pub fn near(alloc: Global, users: &Graph, rows: &[Row]) -> Result<Vec<bool>, AllocError>
+    requires few { length rows.now < 2 ^ 32 }
+    requires needs { NeedsVariables rows.now }
+    requires users { IsReversed rows.now users.now }
+    ensures marks { IfOk result (λ new. AreMarks rows.now (rests_on (are_due rows.now) rows.now) new.items) }
+    ensures size { IfOk result (λ new. length new.items ≡ length rows.now) }
+{
+    let held = held(alloc, users, rows)?;
+    let due = due(alloc, rows, &held)?;
+    let new = resting(alloc, users, rows, &due)?;
+    Ok(new)
+}
+
 /// The least variable that may start, in time linear in variables and needs. It fails only without memory.
 pub fn next_start(alloc: Global, users: &Graph, rows: &[Row]) -> Result<Option<u32>, AllocError>
     requires few { length rows.now < 2 ^ 32 }

@@ -93,14 +93,6 @@ impl Wave {
         })
     }
 
-    /// The rows, by number from 0.
-    #[cfg(test)]
-    pub(crate) fn rows(&self) -> &[Row]
-        ensures { result.now ≡ self.now.rows }
-    {
-        &self.rows
-    }
-
     /// Says of a variable whether it is wanted, whether it runs at a second or later pull, what it rests on now and what
     /// it needs directly. Its start stays. It fails only without memory, and then nothing has changed.
     pub fn put(
