@@ -1,5 +1,5 @@
 -- What a wave is told of the variables of a sheet.
-use Rattle.std.specs.Prelude.{ℕ, ◌+◌, ◌≡◌, ◌≤◌, ◌<◌, ◌⊎◌, Bool, cond, not, ◌&&◌, List, [], length, map, Option, None, Some, IfSome, IsSome, option_map, slice_get}
+use Rattle.std.specs.Prelude.{ℕ, ⊤, ◌+◌, ◌≡◌, ◌≤◌, ◌<◌, ◌⊎◌, Bool, cond, not, ◌&&◌, List, [], length, map, Option, None, Some, IfSome, IsSome, option_map, slice_get}
 use Rattle.nb_sheet.specs.Sheet.{Sheet}
 use Rattle.nb_resolve.specs.Names.{inputs, direct, duplicate}
 use Rattle.nb_wave.specs.declared.footing.Footing.{Footing as Numbered}
@@ -7,7 +7,8 @@ use Rattle.nb_wave.specs.declared.row.Row.{Row}
 use Rattle.nb_wave.specs.declared.step.Step.{Step as WaveStep}
 use Rattle.nb_wave.specs.declared.step.Step.TheVariants.{Left, Pending}
 use Rattle.nb_wave.specs.Rules.{from_option}
-use Rattle.nb_wave.specs.Wave.{unput, kept_of as kept_in, IsNumber}
+use Rattle.nb_wave.specs.Steps.{changed}
+use Rattle.nb_wave.specs.Wave.{unput, kept_row, kept_of as kept_in, IsNumber}
 use Rattle.nb_history.specs.Needs.{circular, is_used}
 use Rattle.nb_history.specs.Reading.{Start, Footing}
 use Rattle.nb_history.specs.Rules.{place_of, input_code}
@@ -58,10 +59,17 @@ pub record AreTold (s : Sheet) (starts : List (Option Start)) (moment : Moment) 
   pub told : (v : ℕ) (row : Row) → 1 ≤ v → v ≤ k → slice_get rows v ≡ Some row → IsTold s moment.disposed (site_in moment.sites.items) (kept_of (start_in starts v)) v row
   pub rest : (v : ℕ) (row : Row) → (v ≡ 0) ⊎ (k < v) → slice_get rows v ≡ Some row → row ≡ unput
 
--- the row of a variable is the only one that changed, and its start rests on this
-pub record IsKept (start : Option Footing) (old new : Option Numbered) : Type 0 where
-  pub kept : (old ≡ None) → option_map footing_of new ≡ start
-  pub marked : (old ≡ None) → IfSome new IsMarked
+-- a row whose start rests on this, where it has one
+abbrev pub keeping : Option Numbered → Row → Row
+keeping None row = row
+keeping (Some k) row = kept_row k row
+
+-- v's start rests on this, and else the rows are as they were
+pub record IsKept (start : Option Footing) (v : ℕ) (old new : List Row) : Type 0 where
+  pub kept : Option Numbered
+  pub footing : option_map footing_of kept ≡ start
+  pub marked : IfSome kept IsMarked
+  pub rows : new ≡ changed (keeping kept) v old
 
 -- ---- what is read off when it has closed
 
@@ -76,5 +84,5 @@ step_in rows (Pending v) = Starts v (resting_in rows v)
 
 -- what starts is a variable, and isn't idle
 abbrev pub StartsIn : List Row → WaveStep → Type 0
-StartsIn rows (Left v) = IsSome (Some v)
+StartsIn rows (Left v) = ⊤
 StartsIn rows (Pending v) = IsNumber v × IsSome (kept_in rows v)
