@@ -9,10 +9,10 @@ use Rattle.nb_closing.proofs.telling.keep_start.Goals as goal
 pub returns-in_ok-keep-in-Some-clause-kept : goal.returns-in_ok-keep-in-Some-clause-kept
 returns-in_ok-keep-in-Some-clause-kept c =
     record {
-      kept = Some c.in_ok-kept.kept;
-      footing = ap (λ (f : Footing). Some f) (ap footing_of c.in_ok-kept.ensures ∙ c.kept.ensures.value) ∙ ap kept_of c.in-Some.ensures;
-      marked = subst IsMarked (sym c.in_ok-kept.ensures) c.kept.ensures.marked;
-      rows = c.in_ok-keep.ensures.ok;
+      kept = Some c.in_ok-kept-in-Some.kept;
+      footing = ap (λ (f : Footing). Some f) (ap footing_of c.in_ok-kept-in-Some.ensures ∙ c.kept.ensures.value) ∙ ap kept_of c.in-Some.ensures;
+      marked = subst IsMarked (sym c.in_ok-kept-in-Some.ensures) c.kept.ensures.marked;
+      rows = c.in_ok-keep-in-Some.ensures.ok;
     }
 
 pub returns-in-None-clause-kept : goal.returns-in-None-clause-kept

@@ -19,7 +19,7 @@ returns-clause-told c =
     let k = c.args.k in
     let inside : k < 1024 = omega (arith, c.requires.row, c.requires.few) in
     told_more s c.args.starts.now.items m k inside c.args.wave.now.rows c.put.new.self.rows c.keep_start.new.wave.rows c.requires.told
-    c.is_wanted.result (Site.later c.site_at-later.result) c.in_ok-present.present c.deref.result.now
-    (c.is_wanted.ensures ∙ ap (λ (t : Ties). not m.disposed && t.is_used) c.requires.ties)
+    c.is_wanted-wanted.result (Site.later c.site_at-later.result) c.in_ok-present.present c.deref.result.now
+    (c.is_wanted-wanted.ensures ∙ ap (λ (t : Ties). not m.disposed && t.is_used) c.requires.ties)
     (ap (λ (x : Site). x.later) c.site_at-later.ensures) c.in_ok-present.ensures.footing c.in_ok-present.ensures.marked
     (c.deref.ensures.value ∙ c.direct.ensures ∙ ap (λ (t : Ties). t.direct) c.requires.ties) c.in_ok-put.ensures.ok c.in_ok-keep_start.ensures.kept
