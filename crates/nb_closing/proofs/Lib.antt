@@ -1,1 +1,9 @@
-
+mod Duplicates
+mod SameFootings
+mod Agreeing
+mod ToldRows
+mod ToldAfter
+mod StartsKept
+mod Planned
+mod Sound
+mod Putting
