@@ -8,6 +8,8 @@ ghost use Rattle.nb_history.specs.Serial.{least_var};
 ghost use Rattle.nb_work.specs.Work.{work_of};
 ghost use Rattle.nb_core.specs.Core.{Gains, Places, RestsInTime, MayLoad, ShownIs, shown_outcome, RestsOnScratch, live_from, key_of};
 
+mod events;
+
 use crate::machine::Machine;
 use crate::placed::{Placed, Shown};
 use nb_closing::Closer;
@@ -57,20 +59,6 @@ impl Core {
             machine,
             closer,
         })
-    }
-
-    /// Takes an event of an editor: its entry, and then what leaves and starts. This is the place of the entry. A rest may
-    /// come only where nothing is ready. It fails only without memory; then nothing has changed, and the event comes back.
-    ///
-    /// An edit costs a scan over the rows for each name of each cell, a frame a look at each start, a settlement a look at
-    /// each ticket.
-    pub fn event(&mut self, editor: u8, event: Event) -> Result<u64, (Event, AllocError)>
-        requires low { editor < 8 }
-        requires rest { RestsInTime (standing self.old) event }
-        ensures ok { IfOk result (λ place. (place ≡ length self.old.log + 1) × Gains self.old (admit (standing self.old) editor event) self.new) }
-        ensures err { IfErr result (λ refused. (refused.0 ≡ event) × (self.new ≡ self.old)) }
-    {
-        loop {}
     }
 
     /// The least ready variable. It takes no memory, and costs a look at each start, and at each input of those that run.
