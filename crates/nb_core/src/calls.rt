@@ -14,6 +14,8 @@ mod completing;
 mod events;
 mod loading;
 
+mod events;
+
 use crate::machine::Machine;
 use crate::placed::Shown;
 use nb_closing::{Closer, Ties};

@@ -125,7 +125,12 @@ impl Machine {
     }
 
     /// A ticket is settled by an editor. It fails only without memory, and then the answer comes back. It copies the answer.
-    pub fn settled(&mut self, editor: u8, ticket: u64, answer: Answer) -> Result<(), (Answer, AllocError)>
+    pub fn settled(
+        &mut self,
+        editor: u8,
+        ticket: u64,
+        answer: Answer,
+    ) -> Result<(), (Answer, AllocError)>
         ensures ok { OnOk result (self.new.history ≡ plus self.old.history (Entry.Settled editor ticket answer)) }
         ensures err { IfErr result (λ refused. (refused.0 ≡ answer) × (self.new.history ≡ self.old.history)) }
     {
@@ -141,7 +146,14 @@ impl Machine {
     }
 
     /// A variable shows an outcome. `entry` goes into the log.
-    pub fn show(&mut self, var: u32, entry: Entry, outcome: Outcome, cleanups: Items<Value>, ends: bool)
+    pub fn show(
+        &mut self,
+        var: u32,
+        entry: Entry,
+        outcome: Outcome,
+        cleanups: Items<Value>,
+        ends: bool,
+    )
         requires room { 0 < self.old.room }
         requires same { entry ≡ shown_entry var outcome }
         requires cleanups { cleanups ≡ cleanups_now (standing self.old.history) var }
@@ -185,7 +197,12 @@ impl Machine {
 
     /// Does an edit that isn't refused, and then what closes. The closer takes over the ties of the new sheet. It fails only
     /// without memory; then nothing has changed, and the edit comes back.
-    pub fn edit(&mut self, closer: &mut Closer, editor: u8, edit: Edit) -> Result<(), (Edit, AllocError)>
+    pub fn edit(
+        &mut self,
+        closer: &mut Closer,
+        editor: u8,
+        edit: Edit,
+    ) -> Result<(), (Edit, AllocError)>
         requires admitted { refusal (standing self.old.history).sheet edit ≡ None }
         requires ties { closer.old ≡ all_ties (standing self.old.history).sheet }
         ensures ok { OnOk result (Gains self.old.history (Entry.Edit editor edit) self.new.history) }
