@@ -14,8 +14,6 @@ mod completing;
 mod events;
 mod loading;
 
-mod events;
-
 use crate::machine::Machine;
 use crate::placed::Shown;
 use nb_closing::{Closer, Ties};
