@@ -27,8 +27,8 @@ abbrev pub Stands : Sheet → List (Option Start) → Bool → List Ticket → L
 Stands sheet starts disposed tickets log = reading sheet.builtins log ≡ leaves sheet starts disposed tickets log
 
 -- a reading of so many entries has this sheet and these starts, and variables past them are idle
-pub record HasParts (r : Reading) (sheet : Sheet) (starts : List (Option Start)) (disposed : Bool) (entries : ℕ) : Type 0 where
-  pub sheet : r.sheet ≡ sheet
-  pub starts : (v : ℕ) → start_of r v ≡ start_in starts v
-  pub disposed : r.disposed ≡ disposed
-  pub entries : r.entries ≡ entries
+pub record HasParts (r : Reading) (s : Sheet) (xs : List (Option Start)) (is_disposed : Bool) (n : ℕ) : Type 0 where
+  pub sheet : r.sheet ≡ s
+  pub starts : (v : ℕ) → start_of r v ≡ start_in xs v
+  pub disposed : r.disposed ≡ is_disposed
+  pub entries : r.entries ≡ n
