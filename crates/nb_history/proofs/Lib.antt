@@ -55,3 +55,9 @@ pub mod SteadyEdits
 pub mod RestHolds
 pub mod InputsKept
 pub mod GoingOn
+pub mod Plus
+pub mod Quiets
+pub mod QuietEntries
+pub mod Pulls
+pub mod Gains
+pub mod LiveTickets

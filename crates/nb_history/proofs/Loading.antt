@@ -10,7 +10,7 @@ use Rattle.nb_value.specs.declared.outcome.Answer.{Answer}
 use Rattle.nb_sheet.specs.Lists.{Name, nth, numbers, from_option}
 use Rattle.nb_history.specs.Reading.{Reading, Ticket, is_full}
 use Rattle.nb_history.specs.Rules.{ready, next}
-use Rattle.nb_history.specs.Log.{nothing_yet, after, read_from, reading, IsLegal, admit, is_live, Fits, LegalFrom}
+use Rattle.nb_history.specs.Log.{nothing_yet, after, read_from, reading, IsLegal, admit, is_live, Fits, LegalFrom, Rests}
 use Rattle.nb_history.specs.Serial.{least_var, closing, Todo, loader_ticket, outer_step, may_load, to_load, first_step, AreEditors, SerialFrom}
 use Rattle.nb_history.specs.Starts.{is_of_variable}
 use Rattle.nb_history.specs.Work.{to_do}
@@ -78,7 +78,7 @@ pub record MayLoad (r : Reading) (t : ℕ) : Type 0 where
   pub runs : r.disposed ≡ false
   pub room : is_full r ≡ false
 
-may_be_loaded : (keys : List Name) (r : Reading) (t : ℕ) → to_load keys r ≡ Some t → MayLoad r t
+pub may_be_loaded : (keys : List Name) (r : Reading) (t : ℕ) → to_load keys r ≡ Some t → MayLoad r t
 may_be_loaded keys r t h = go (may_load r) refl
   where
     go : (b : Bool) → may_load r ≡ b → MayLoad r t
@@ -91,6 +91,10 @@ may_be_loaded keys r t h = go (may_load r) refl
           runs = not-true r.disposed p.0;
           room = not-true (is_full r) p.1;
         }
+
+-- where the log rests, the answer of a loader may come to each live ticket
+pub loaded_fits : (r : Reading) (t : ℕ) (a : Answer) → Rests r → is_live r t ≡ true → r.disposed ≡ false → is_full r ≡ false → Fits r (Loaded t a)
+loaded_fits r t a rests live runs room = (rests, live, runs, room)
 
 module _ (keys : List Name) (answer : Answering) where
   -- an entry of a variable, and the work from there

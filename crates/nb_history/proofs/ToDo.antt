@@ -128,7 +128,7 @@ run_ends r (e ∷ es) h legal are =
     omega (arith, run_ends (after r e) es (fit_after r e h legal.0) legal.1 are.1, uses_up r e h legal.0 are.0)
 
 -- the next entry of a ready variable, with the `left` and `pending` entries that follow it, leaves less to do
-run_less : (r : Reading) (es : List Entry) → Fit r → AllClosing es → LegalFrom r es → to_do (read_from r es) ≤ to_do r
+pub run_less : (r : Reading) (es : List Entry) → Fit r → AllClosing es → LegalFrom r es → to_do (read_from r es) ≤ to_do r
 run_less r [] h all legal = omega arith
 run_less r (e ∷ es) h all legal =
     let here : to_do (after r e) < to_do r = uses_up r e h legal.0 (of_variable_between e (closing_is e all.0)) in

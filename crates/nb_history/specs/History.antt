@@ -15,11 +15,10 @@ pub record History : Type 0 where
 abbrev pub standing : History → Reading
 standing h = reading h.builtins h.log
 
--- one more entry
+-- with one more entry at the log's end, and with these entries
 abbrev pub plus : History → Entry → History
 plus h e = record h { log = h.log ++ e ∷ [] }
 
--- more entries
 abbrev pub plus_all : History → List Entry → History
 plus_all h es = record h { log = h.log ++ es }
 

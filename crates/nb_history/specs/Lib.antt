@@ -15,3 +15,4 @@ pub mod Ends
 pub mod Print
 pub mod History
 pub mod Headline
+pub mod Quiet

@@ -6,6 +6,7 @@ ghost use Rattle.nb_history.specs.Cleanups.{CleansUpOnce};
 ghost use Rattle.nb_history.specs.Ends.{PullsNeverGrow, PullsAskFew, AnswersStartNothing, AllUseUp, BetweenLinesEnds, VariablesEndSoon, BatchEndsSoon, WorkEnds, LoadsEnd, SerialEnds, SerialEndsAlone, SerialIsLegal, SerialIsOne, SerialRests, SerialIsFirst, EditedIsThere, SerialIsHistory, HistoryIsThere, HistoryIsThereAlone, AnswerIsOne, AnswersAreIn, HistoryIsOne, ReachedIsLegal, ReachedIsFront, PiecesArePrinting, FrontIsWrittenFirst};
 ghost use Rattle.nb_history.specs.Parked.{ReadyKeepsInputs, AskGoesOn, ValueGoesOn};
 ghost use Rattle.nb_history.specs.Headline.{RestsHold};
+ghost use Rattle.nb_history.specs.Quiet.{OthersStayQuiet, FirstPullsStayQuiet, PullsAreFew};
 
 /// A law, with nothing to run: in a run of entries that are all `left` or `pending` each variable has at most one
 /// `pending`, and the run has at most as many entries as there are variables. While anything is due, something may start.
@@ -98,4 +99,12 @@ pub fn law_of_loaders()
 pub fn law_of_pieces()
     ensures whole { PiecesArePrinting }
     ensures first { FrontIsWrittenFirst }
+{}
+
+/// A law, with nothing to run: where nothing is leaving or due, nothing is after a frame, an answer, a late one, a refusal
+/// and a rest, nor after a notice of a variable at its first pull. Each start was pulled at most 4,000,001 times.
+pub fn law_of_quiet()
+    ensures others { OthersStayQuiet }
+    ensures first { FirstPullsStayQuiet }
+    ensures pulls { PullsAreFew }
 {}

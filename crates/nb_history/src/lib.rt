@@ -7,5 +7,5 @@ mod law;
 
 pub use law::{
     law_of_cleanups, law_of_history, law_of_loaders, law_of_parked, law_of_pieces, law_of_pulling,
-    law_of_rests, law_of_serial, law_of_starts, law_of_work,
+    law_of_quiet, law_of_rests, law_of_serial, law_of_starts, law_of_work,
 };
