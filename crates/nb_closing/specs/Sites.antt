@@ -22,9 +22,9 @@ abbrev pub kept_of : Option Start → Option Footing
 kept_of o = option_map (λ (s : Start). s.kept) o
 
 -- The reading has this sheet, its starts rest on what these do, and its variables have the moment's sites.
-pub record IsScene (r : Reading) (sheet : Sheet) (starts : List (Option Start)) (moment : Moment) : Type 0 where
-  pub sheet : r.sheet ≡ sheet
-  pub kept : (v : ℕ) → kept_of (start_of r v) ≡ kept_of (start_in starts v)
+pub record IsScene (r : Reading) (s : Sheet) (xs : List (Option Start)) (moment : Moment) : Type 0 where
+  pub sheet : r.sheet ≡ s
+  pub kept : (v : ℕ) → kept_of (start_of r v) ≡ kept_of (start_in xs v)
   pub sites : (v : ℕ) → site_of (start_of r v) ≡ site_in moment.sites.items v
   pub disposed : r.disposed ≡ moment.disposed
   pub place : moment.place ≡ r.entries + 1
