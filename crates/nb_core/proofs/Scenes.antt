@@ -10,7 +10,8 @@ use Rattle.nb_sheet.specs.Lists.{nth, put, from_option, option_then}
 use Rattle.nb_history.specs.Reading.{Reading, Start, Footing, start_of}
 use Rattle.nb_history.specs.Rules.{ready, next}
 use Rattle.nb_history.specs.Log.{after}
-use Rattle.nb_history.proofs.Closing.{nth_put_same, nth_put_other}
+use Rattle.nb_history.proofs.Closing.{nth_put_same, nth_put_other, Shaped}
+use Rattle.nb_history.proofs.Shapes.{shaped_after}
 use Rattle.nb_history.proofs.StartsAfter.{inside, Runs}
 use Rattle.nb_history.proofs.NextEntry.{IsOutcome, next_outcome, ready_runs, outcome_start, outcome_starts, outcome_sheet, outcome_keeps}
 use Rattle.nb_history.proofs.Working.{there_in}
@@ -116,15 +117,16 @@ module _ (r : Reading) (v : ℕ) (e : Entry) (of : IsOutcome v e) where
     ]
 
 -- the scene after the next entry
-pub scene_after : (r : Reading) (v : ℕ) (e : Entry) (moment : Moment) → ready r v ≡ true → e ≡ next r v
+pub scene_after : (r : Reading) (v : ℕ) (e : Entry) (moment : Moment) → Shaped r → ready r v ≡ true → e ≡ next r v
     → moment.sites.items ≡ stopped_at (map site_of r.starts) v (is_outcome e) (r.entries + 1) → moment.disposed ≡ r.disposed → moment.place ≡ r.entries + 2
     → IsScene (after r e) r.sheet r.starts moment
-scene_after r v e moment is_ready is sites disposed place =
+scene_after r v e moment shaped is_ready is sites disposed place =
     let of : IsOutcome v e = subst (IsOutcome v) (sym is) (next_outcome r v) in
     let runs : Runs r v = ready_runs r v is_ready in
     let rest : ((after r e).disposed ≡ r.disposed) × ((after r e).entries ≡ r.entries + 1) = outcome_rest r v e of in
     record {
       sheet = outcome_sheet r v e of;
+      shaped = shaped_after r e shaped;
       kept = kept_after r v e of runs.start runs.there runs.running;
       sites = λ w. sites_after r v e of runs.start runs.there runs.running w ∙ ap (λ (l : List Site). site_in l w) (sym sites);
       disposed = rest.0 ∙ sym disposed;
