@@ -61,3 +61,4 @@ pub mod QuietEntries
 pub mod Pulls
 pub mod Gains
 pub mod LiveTickets
+pub mod Admits
