@@ -1,0 +1,4 @@
+pub mod Few
+pub mod Plans
+pub mod Plus
+pub mod Steps
