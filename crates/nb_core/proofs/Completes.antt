@@ -17,7 +17,10 @@ use Rattle.nb_runs.specs.Starts.{start_in}
 use Rattle.nb_closing.specs.declared.step.Step.{Step}
 use Rattle.nb_closing.specs.Plan.{Plans, planned}
 use Rattle.nb_closing.specs.Ties.{Ties, all_ties}
-use Rattle.nb_core.specs.Core.{Gains}
+use Rattle.nb_eval.specs.declared.work.WorkDone.{WorkDone}
+use Rattle.nb_core.specs.Core.{Gains, IsPresent, Places}
+use Rattle.nb_core.specs.declared.placed.Placed.{Placed}
+use Rattle.nb_core.specs.declared.placed.Placed.TheVariants.{Shown, Stale}
 use Rattle.nb_core.proofs.Plans.{plan_then, gains_plan, sheet_then}
 
 -- what was gained, at the log's end
@@ -73,3 +76,14 @@ first_pull_plans h v e xs steps closed is starts few none =
     let of : IsOutcome v e = subst (IsOutcome v) (sym is) (next_outcome r v) in
     let few_now : pulls_of r v ≤ 1 = subst (λ (l : List (Option Start)). from_option 0 (λ (s : Start). s.pulls) (start_in l v) ≤ 1) starts few in
     subst (Plans (after r e)) (sym none) (nothing_closes (after r e) (first_pulls_stay_quiet r v e (notice_of_next v e of) few_now closed.quiet))
+
+-- ---- what was placed
+
+-- of present work the next entry is gained
+pub places_gains : (old new : History) (v start : ℕ) (done : WorkDone) (p : Placed) → IsPresent (standing old) v start done → Places old new v start done p → Gains old (next (standing old) v) new
+places_gains old new v start done (Shown place) present h = h.2
+places_gains old new v start done (Stale held now) present h = absurd (h.0 present)
+
+-- nothing changed
+pub core_same : (h new : History) (own now : List Ties) → new ≡ h → now ≡ own → IsClosedHistory h → own ≡ all_ties (standing h).sheet → IsClosedHistory new × (now ≡ all_ties (standing new).sheet)
+core_same h new own now same stays closed tied = (subst IsClosedHistory (sym same) closed, stays ∙ tied ∙ ap (λ (g : History). all_ties (standing g).sheet) (sym same))

@@ -1,5 +1,6 @@
 -- A loader's answer where the log rests.
-use Rattle.std.proofs.Common.{ℕ, ◌≡◌, refl, sym, ◌∙◌, ap, subst, Bool, true, false, List, [], Option, Some, None}
+use Rattle.std.proofs.Common.{ℕ, ◌≡◌, refl, sym, ◌∙◌, ap, subst, Bool, true, false, ◌&&◌, List, [], Option, Some, None}
+use Rattle.std.specs.Prelude.{nat_le}
 use Rattle.std.proofs.lemmas.Bool.{false≢true}
 use Rattle.std.proofs.lemmas.Option.{none-some}
 use Rattle.nb_value.specs.declared.outcome.Answer.{Answer}
@@ -7,20 +8,21 @@ use Rattle.nb_log.specs.declared.entry.Entry.{Entry}
 use Rattle.nb_log.specs.declared.entry.Entry.TheVariants.{Loaded}
 use Rattle.nb_log.specs.declared.entry.Refusal.{Refusal}
 use Rattle.nb_log.specs.declared.entry.Refusal.TheVariants.{Disposed, LogFull}
-use Rattle.nb_sheet.specs.Lists.{numbers, or_else}
-use Rattle.nb_history.specs.Reading.{Reading, is_full}
+use Rattle.nb_sheet.specs.Lists.{Name, nth, numbers, from_option, or_else}
+use Rattle.nb_history.specs.Reading.{Reading, Start, Ticket, is_full}
 use Rattle.nb_history.specs.Rules.{ready}
 use Rattle.nb_history.specs.Log.{after, when, is_live, NothingReady, Fits}
 use Rattle.nb_history.specs.Serial.{least_var}
 use Rattle.nb_history.specs.History.{History, standing, plus, IsClosedHistory}
-use Rattle.nb_history.proofs.Closing.{first_some}
+use Rattle.nb_history.proofs.Closing.{first_some, number_has}
 use Rattle.nb_history.proofs.Shapes.{sound_reading}
 use Rattle.nb_history.proofs.Serials.{none_ready}
 use Rattle.nb_history.proofs.Gains.{nothing_closes, stays_closed}
 use Rattle.nb_history.proofs.QuietEntries.{stays_quiet}
 use Rattle.nb_history.proofs.Plus.{standing_plus}
 use Rattle.nb_closing.specs.Ties.{Ties, all_ties}
-use Rattle.nb_core.specs.Core.{Gains, MayLoad, gate}
+use Rattle.nb_runs.specs.Tickets.{live_in, live_from_in}
+use Rattle.nb_core.specs.Core.{Gains, MayLoad, gate, live_from, key_of}
 
 -- ---- whether one may come
 
@@ -78,3 +80,25 @@ module _ (h now new : History) (t : ℕ) (a : Answer) (closed : IsClosedHistory 
   core_answered own now tied stays =
       let same_sheet : (standing new).sheet ≡ (standing h).sheet = ap (λ (g : History). (standing g).sheet) is ∙ ap (λ (r : Reading). r.sheet) (standing_plus h (Loaded t a)) in
       (stays_closed h new (Loaded t a) closed fits refl is, stays ∙ tied ∙ ap all_ties (sym same_sheet))
+
+-- ---- live tickets
+
+module _ (h now : History) (view : h ≡ now) (xs : List (Option Start)) (ts : List Ticket) (starts : xs ≡ (standing h).starts) (tickets : ts ≡ (standing h).tickets) (n : ℕ) where
+  tickets_now : ts ≡ (standing now).tickets
+  tickets_now = tickets ∙ ap (λ (g : History). (standing g).tickets) view
+
+  pub live_now : live_from_in xs ts n ≡ live_from (standing now) n
+  live_now =
+      ap (λ (l : List (Option Start)). live_from_in l ts n) (starts ∙ ap (λ (g : History). (standing g).starts) view)
+      ∙ ap (λ (l : List Ticket). live_from_in (standing now).starts l n) tickets_now
+
+  -- a live ticket is there
+  pub live_there : (t : ℕ) → live_from_in xs ts n ≡ Some t → nth ts t ≡ None → ⊥
+  live_there t found none =
+      let p : (k : Ticket) × (nth ts t ≡ Some k) = number_has ts t (first_some (λ t. nat_le n t && live_in xs ts t) (numbers ts) t found).1 in
+      none-some p.0 (sym none ∙ p.1)
+
+  pub key_now : (t : ℕ) (k : Ticket) → nth ts t ≡ Some k → k.key ≡ key_of (standing now) t
+  key_now t k there =
+      let key : Option Ticket → Name = from_option [] (λ (k : Ticket). k.key) in
+      ap key (sym there) ∙ ap (λ (l : List Ticket). key (nth l t)) tickets_now

@@ -1,5 +1,5 @@
 -- What the next entry of a ready variable leaves, as one sees it who works out what closes.
-use Rattle.std.proofs.Common.{inl, inr, ℕ, zero, suc, ◌≡◌, ◌≢◌, ◌+◌, refl, sym, ◌∙◌, ap, subst, arith, Bool, true, false, cond, ◌&&◌, List, map, option_map, Option, Some, None}
+use Rattle.std.proofs.Common.{inl, inr, ℕ, zero, suc, ◌≡◌, ◌≢◌, ◌+◌, refl, sym, ◌∙◌, ap, subst, arith, Bool, true, false, cond, ◌&&◌, List, map, length, option_map, Option, Some, None}
 use Rattle.std.specs.Prelude.{nat_le}
 use Rattle.std.proofs.lemmas.Bool.{cases_eq}
 use Rattle.std.proofs.lemmas.Option.{slice_get-map}
@@ -10,8 +10,10 @@ use Rattle.nb_sheet.specs.Lists.{nth, put, from_option, option_then}
 use Rattle.nb_history.specs.Reading.{Reading, Start, Footing, start_of}
 use Rattle.nb_history.specs.Rules.{ready, next}
 use Rattle.nb_history.specs.Log.{after}
+use Rattle.nb_history.specs.History.{History, standing}
 use Rattle.nb_history.proofs.Closing.{nth_put_same, nth_put_other, Shaped}
-use Rattle.nb_history.proofs.Shapes.{shaped_after}
+use Rattle.nb_history.proofs.Shapes.{shaped_after, sound_reading}
+use Rattle.nb_history.proofs.Plus.{reading_entries}
 use Rattle.nb_history.proofs.StartsAfter.{inside, Runs}
 use Rattle.nb_history.proofs.NextEntry.{IsOutcome, next_outcome, ready_runs, outcome_start, outcome_starts, outcome_sheet, outcome_keeps}
 use Rattle.nb_history.proofs.Working.{there_in}
@@ -132,3 +134,17 @@ scene_after r v e moment shaped is_ready is sites disposed place =
       disposed = rest.0 ∙ sym disposed;
       place = omega (arith, place, rest.1);
     }
+
+-- by its parts, in a history
+pub scene_here : (h : History) (v : ℕ) (e : Entry) (moment : Moment) (xs : List (Option Start)) (sites : List Site) (shows : Bool) (n : ℕ) → ready (standing h) v ≡ true → e ≡ next (standing h) v
+    → xs ≡ (standing h).starts → sites ≡ map site_of xs → shows ≡ is_outcome e → n ≡ length h.log
+    → moment.sites.items ≡ stopped_at sites v shows (n + 1) → moment.disposed ≡ (standing h).disposed → moment.place ≡ n + 1 + 1
+    → IsScene (after (standing h) e) (standing h).sheet (standing h).starts moment
+scene_here h v e moment xs sites shows n is_ready is starts all outcome long sites_now disposed place =
+    let count : n ≡ (standing h).entries = long ∙ sym (reading_entries h.builtins h.log) in
+    scene_after (standing h) v e moment (sound_reading h.builtins h.log).shaped is_ready is
+    (sites_now
+    ∙ ap (λ (l : List Site). stopped_at l v shows (n + 1)) (all ∙ ap (λ (l : List (Option Start)). map site_of l) starts)
+    ∙ ap (λ (b : Bool). stopped_at (map site_of (standing h).starts) v b (n + 1)) outcome
+    ∙ ap (λ (m : ℕ). stopped_at (map site_of (standing h).starts) v (is_outcome e) (m + 1)) count)
+    disposed (omega (arith, place, count))

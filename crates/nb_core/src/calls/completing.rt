@@ -12,7 +12,7 @@ ghost use Rattle.nb_closing.specs.Ties.{all_ties};
 ghost use Rattle.nb_work.specs.Notices.{IsNotice};
 ghost use Rattle.nb_work.specs.Work.{work_of};
 ghost use Rattle.nb_core.specs.Core.{Gains, Places};
-ghost use Rattle.nb_core.specs.Sites.{is_outcome, stopped_at};
+ghost use Rattle.nb_core.specs.Sites.{is_outcome, stopped_site, stopped_at};
 
 use crate::calls::Core;
 use crate::machine::Machine;
@@ -161,7 +161,7 @@ fn moment_after(
 {
     let place = machine.len() + 1;
     let mut sites = sites(alloc, machine.starts())?;
-    stop_site(&mut sites, var, shows_outcome(entry), place);
+    stop_at(&mut sites, var, shows_outcome(entry), place);
     Ok(Moment {
         sites,
         disposed: machine.is_disposed(),
@@ -180,17 +180,24 @@ fn shows_outcome(entry: &Entry) -> bool
     }
 }
 
-/// The site of a variable that stops running at a place. An outcome of a second or later pull renews it.
-fn stop_site(sites: &mut Vec<Site>, var: u32, shows: bool, place: u64)
+/// A start stops running at a place. An outcome of a second or later pull renews it.
+fn stop(site: &mut Site, shows: bool, place: u64)
+    ensures { site.new ≡ stopped_site shows place site.old }
+{
+    if shows && site.later {
+        site.renewal = place;
+    }
+    site.later = false;
+}
+
+/// A variable's start stops running at a place.
+fn stop_at(sites: &mut Vec<Site>, var: u32, shows: bool, place: u64)
     ensures { sites.new.items ≡ stopped_at sites.old.items var shows place }
 {
-    if var >= 1 && var as usize <= sites.len() {
-        let site = &mut sites[var as usize - 1];
-        if shows && site.later {
-            site.renewal = place;
-        }
-        site.later = false;
+    if var == 0 || var as usize > sites.len() {
+        return;
     }
+    stop(&mut sites[var as usize - 1], shows, place);
 }
 
 /// Adds the entry of a notice. It takes no memory.
