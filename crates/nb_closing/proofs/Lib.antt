@@ -1,9 +1,10 @@
-mod Duplicates
-mod SameFootings
-mod Agreeing
-mod ToldRows
-mod ToldAfter
-mod StartsKept
-mod Planned
-mod Sound
-mod Putting
+pub mod Agreeing
+pub mod Duplicates
+pub mod Planned
+pub mod SameFootings
+pub mod Sound
+pub mod StartsKept
+pub mod Tables
+pub mod ToldAfter
+pub mod ToldRows
+pub mod Used

@@ -1,1 +1,9 @@
-
+pub mod Completes
+pub mod Few
+pub mod Loads
+pub mod Looks
+pub mod Plans
+pub mod Plus
+pub mod Runs
+pub mod Scenes
+pub mod Steps

@@ -9,9 +9,9 @@ use Rattle.nb_log.specs.declared.event.Event.TheVariants.{Rest as RestEvent}
 use Rattle.nb_log.specs.declared.entry.Entry.{Entry}
 use Rattle.nb_log.specs.declared.entry.Refusal.{Refusal}
 use Rattle.nb_log.specs.declared.entry.Refusal.TheVariants.{Disposed, LogFull}
-use Rattle.nb_sheet.specs.Lists.{Name, nth, numbers, from_option, or_else}
+use Rattle.nb_sheet.specs.Lists.{Name, nth, numbers, from_option, option_then, or_else}
 use Rattle.nb_history.specs.Lists.{first_where}
-use Rattle.nb_history.specs.Reading.{Reading, Start, Ticket, start_of, is_idle, is_full, shown, number}
+use Rattle.nb_history.specs.Reading.{Reading, Start, Ticket, start_of, is_idle, is_full, number}
 use Rattle.nb_history.specs.Rules.{ready, next}
 use Rattle.nb_history.specs.Log.{after, Rests, NothingReady, is_live, when}
 use Rattle.nb_history.specs.Serial.{Closes, Todo, SerialFrom, least_var}
@@ -96,10 +96,13 @@ shows_idle now.Waiting = false
 shows_idle (now.Value x) = false
 shows_idle (now.Error e) = false
 
--- idle exactly where v has no start, and else what its start shows, or that it waits
-pub record ShownIs (r : Reading) (v : ℕ) (s : ShownNow) : Type 0 where
-  pub idle : shows_idle s ≡ is_idle (start_of r v)
-  pub outcome : shown_outcome s ≡ shown r v
+-- idle exactly where there is no start, and else what it shows, or that it waits
+pub record ShownBy (start : Option Start) (s : ShownNow) : Type 0 where
+  pub idle : shows_idle s ≡ is_idle start
+  pub outcome : shown_outcome s ≡ option_then start (λ s. s.shown)
+
+abbrev pub ShownIs : Reading → ℕ → ShownNow → Type 0
+ShownIs r v s = ShownBy (start_of r v) s
 
 -- where the log rests, every wanted variable shows what evaluating from scratch gives
 abbrev pub RestsOnScratch : History → Type 0

@@ -1,20 +1,29 @@
-ghost use Rattle.std.specs.Prelude.{◌≡◌, ◌≤◌, ◌<◌, ◌+◌, [], ◌&&◌, true, false, Some, None, nat_le, length, IfOk, IfErr, OnOk, OnErr, IsTrue, ◌↔◌, option_map};
+ghost use Rattle.std.specs.Prelude.{◌≡◌, ◌≤◌, [], ◌&&◌, true, false, nat_le, length, IfOk};
 ghost use Rattle.std.specs.Option.{option_copied};
+ghost use Rattle.nb_sheet.specs.Lists.{nth, from_option};
 ghost use Rattle.nb_history.specs.Reading.{shown as shown_in_log, number};
 ghost use Rattle.nb_history.specs.History.{standing, IsClosedHistory};
-ghost use Rattle.nb_history.specs.Log.{admit, is_live, Rests};
-ghost use Rattle.nb_history.specs.Rules.{ready as ready_of, next, wanted as wanted_of, scratch};
+ghost use Rattle.nb_history.specs.Log.{Rests};
+ghost use Rattle.nb_history.specs.Rules.{ready as ready_of, wanted as wanted_of, scratch};
 ghost use Rattle.nb_history.specs.Serial.{least_var};
+ghost use Rattle.nb_closing.specs.Ties.{Ties as TiesValue};
 ghost use Rattle.nb_work.specs.Work.{work_of};
-ghost use Rattle.nb_core.specs.Core.{Gains, Places, RestsInTime, MayLoad, ShownIs, shown_outcome, RestsOnScratch, live_from, key_of};
+ghost use Rattle.nb_core.specs.Core.{ShownIs, ShownBy, shown_outcome, RestsOnScratch};
+
+mod completing;
+mod events;
+mod loading;
 
 use crate::machine::Machine;
-use crate::placed::{Placed, Shown};
-use nb_closing::Closer;
-use nb_eval::{Work, WorkDone};
-use nb_log::{Entry, Event, Log};
+use crate::placed::Shown;
+use nb_closing::{Closer, Ties};
+use nb_eval::Work;
+use nb_log::Log;
+use nb_runs::Started;
+use nb_runs::starts::start_at;
 use nb_sheet::Sheet;
-use nb_value::{Answer, Outcome, Pairs, Text, Value};
+use nb_value::{Outcome, Pairs, Value};
+use nb_work::readiness;
 use std::alloc::{AllocError, Global};
 use std::marker::Model;
 
@@ -59,41 +68,48 @@ impl Core {
         })
     }
 
-    /// Takes an event of an editor: its entry, and then what leaves and starts. This is the place of the entry. A rest may
-    /// come only where nothing is ready. It fails only without memory; then nothing has changed, and the event comes back.
-    ///
-    /// An edit costs a scan over the rows for each name of each cell, a frame a look at each start, a settlement a look at
-    /// each ticket.
-    pub fn event(&mut self, editor: u8, event: Event) -> Result<u64, (Event, AllocError)>
-        requires low { editor < 8 }
-        requires rest { RestsInTime (standing self.old) event }
-        ensures ok { IfOk result (λ place. (place ≡ length self.old.log + 1) × Gains self.old (admit (standing self.old) editor event) self.new) }
-        ensures err { IfErr result (λ refused. (refused.0 ≡ event) × (self.new ≡ self.old)) }
-    {
-        loop {}
-    }
-
     /// The least ready variable. It takes no memory, and costs a look at each start, and at each input of those that run.
     pub fn next_ready(&self) -> Option<u32>
         ensures found { result ≡ least_var (standing self.now) (ready_of (standing self.now)) }
         ensures closed { IsClosedHistory self.now }
         ensures rest { RestsOnScratch self.now }
     {
-        None
+        readiness::next_ready(
+            self.machine.sheet(),
+            self.closer.ties(),
+            self.machine.starts(),
+        )
     }
 
     /// The least ready variable that isn't below a number. It takes no memory.
     pub fn ready_from(&self, at_least: u32) -> Option<u32>
         ensures { result ≡ least_var (standing self.now) (λ v. nat_le at_least v && ready_of (standing self.now) v) }
     {
-        None
+        readiness::ready_from(
+            self.machine.sheet(),
+            self.closer.ties(),
+            self.machine.starts(),
+            at_least,
+        )
+    }
+
+    /// Whether a variable is ready. It takes no memory, and costs a look at each input.
+    fn is_ready(&self, var: u32) -> bool
+        ensures { result ≡ ready_of (standing self.now) var }
+    {
+        readiness::is_ready(
+            self.machine.sheet(),
+            self.closer.ties(),
+            self.machine.starts(),
+            var,
+        )
     }
 
     /// The number of a variable's present start, 0 for an idle one or no variable. It takes no memory.
     pub fn start(&self, var: u32) -> u64
         ensures { result ≡ number (standing self.now) var }
     {
-        0
+        readiness::number(self.machine.starts(), var)
     }
 
     /// What is to be done for a ready variable. It fails only without memory. It copies the cell, the values of its inputs and
@@ -102,50 +118,14 @@ impl Core {
         requires { ready_of (standing self.now) var ≡ true }
         ensures { IfOk result (λ work. work ≡ work_of (standing self.now) var) }
     {
-        Err(AllocError)
-    }
-
-    /// Takes what was done at a start of a variable: its next entry, and then what leaves and starts. Where it isn't what is to
-    /// be done now, nothing changes. All memory is taken first: where it runs out, nothing has changed and the work comes back.
-    ///
-    /// It evaluates nothing, and costs what `segment` does, a copy of the outcome, and what closes.
-    pub fn complete(
-        &mut self,
-        var: u32,
-        start: u64,
-        done: WorkDone,
-    ) -> Result<Placed, (WorkDone, AllocError)>
-        ensures ok { IfOk result (λ placed. Places self.old self.new var start done placed) }
-        ensures err { IfErr result (λ refused. (refused.0 ≡ done) × (self.new ≡ self.old)) }
-    {
-        loop {}
-    }
-
-    /// The least live ticket that isn't below a number, with its key. It takes no memory, and costs a look at each ticket.
-    pub fn live_ticket(&self, at_least: u64) -> Option<(u64, &Text)>
-        ensures number { option_map (λ p. p.0) result ≡ live_from (standing self.now) at_least }
-        ensures key { (p : _) → result ≡ Some p → p.1.now ≡ key_of (standing self.now) p.0 }
-    {
-        None
-    }
-
-    /// Whether a loader's answer may come: nothing is ready, the notebook isn't disposed of, and the log isn't full. It takes
-    /// no memory.
-    pub fn loadable(&self) -> bool
-        ensures { IsTrue result ↔ MayLoad (standing self.now) }
-    {
-        false
-    }
-
-    /// Takes a loader's answer to a live ticket. This is the place of its entry. It fails only without memory; then nothing
-    /// has changed, and the answer comes back.
-    pub fn loaded(&mut self, ticket: u64, answer: Answer) -> Result<u64, (Answer, AllocError)>
-        requires may { MayLoad (standing self.old) }
-        requires live { is_live (standing self.old) ticket ≡ true }
-        ensures ok { IfOk result (λ place. (place ≡ length self.old.log + 1) × Gains self.old (Entry.Loaded ticket answer) self.new) }
-        ensures err { IfErr result (λ refused. (refused.0 ≡ answer) × (self.new ≡ self.old)) }
-    {
-        loop {}
+        let work = nb_work::work_of(
+            self.alloc,
+            self.machine.sheet(),
+            self.closer.ties(),
+            self.machine.starts(),
+            var,
+        )?;
+        Ok(work)
     }
 
     /// What a variable shows. Where the log rests, a wanted variable shows what evaluating from scratch gives.
@@ -154,21 +134,21 @@ impl Core {
         ensures value { ShownIs (standing self.now) var result }
         ensures rest { Rests (standing self.now) → wanted_of (standing self.now) var ≡ true → shown_outcome result ≡ scratch (standing self.now) var }
     {
-        Shown::Idle
+        shown_by(start_at(self.machine.starts(), var))
     }
 
     /// The outcome that a variable shows, if it shows one. It takes no memory.
     pub fn outcome(&self, var: u32) -> Option<&Outcome>
         ensures { option_copied result ≡ shown_in_log (standing self.now) var }
     {
-        None
+        readiness::shown(self.machine.starts(), var)
     }
 
     /// Whether a variable is wanted. It takes no memory.
     pub fn wanted(&self, var: u32) -> bool
         ensures { result ≡ wanted_of (standing self.now) var }
     {
-        false
+        !self.machine.is_disposed() && uses(self.closer.ties(), var)
     }
 
     /// The log.
@@ -191,5 +171,32 @@ impl Core {
     /// Where values are kept.
     pub(crate) fn allocator(&self) -> Global {
         self.alloc
+    }
+}
+
+/// What a start shows.
+fn shown_by(start: Option<&Started>) -> Shown<'_>
+    ensures { ShownBy (option_copied start.entry) result }
+{
+    match start {
+        None => Shown::Idle,
+        Some(start) => match start.shown() {
+            None => Shown::Waiting,
+            Some(Outcome::Value(value)) => Shown::Value(value),
+            Some(Outcome::Error(error)) => Shown::Error(error),
+        },
+    }
+}
+
+/// Whether a variable is used, by its ties.
+fn uses(ties: &Vec<Ties>, var: u32) -> bool
+    ensures { result ≡ from_option false (λ (t : TiesValue). t.is_used) (nth ties.now.items var) }
+{
+    if var == 0 {
+        return false;
+    }
+    match ties.get(var as usize - 1) {
+        None => false,
+        Some(ties) => ties.is_used(),
     }
 }

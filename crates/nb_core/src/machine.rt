@@ -1,23 +1,19 @@
-ghost use Rattle.std.specs.Prelude.{◌≡◌, ◌≤◌, ◌<◌, ◌^◌, ◌+◌, ◌∷◌, [], true, false, Some, None, length, IfOk, IfErr, OnOk, OnErr};
-ghost use Rattle.nb_sheet.specs.Sheet.{refusal};
-ghost use Rattle.nb_history.specs.History.{standing, plus, plus_all};
-ghost use Rattle.nb_history.specs.Reading.{owed};
-ghost use Rattle.nb_history.specs.Rules.{footing};
-ghost use Rattle.nb_history.specs.Log.{cleanups_now, ends_at_once, is_live};
-ghost use Rattle.nb_runs.specs.Footings.{footing_of, IsMarked};
-ghost use Rattle.nb_closing.specs.Ties.{all_ties};
-ghost use Rattle.nb_closing.specs.Plan.{entry_of as step_entry, RestsRight, Plans, planned};
-ghost use Rattle.nb_work.specs.Notices.{shown_entry};
-ghost use Rattle.nb_core.specs.Core.{Gains, gate as gate_of};
+ghost use Rattle.std.specs.Prelude.{◌≡◌, ◌≤◌, ◌<◌, ◌^◌, ◌+◌, [], length, IfOk, OnOk};
+ghost use Rattle.nb_history.specs.History.{standing, plus};
+ghost use Rattle.nb_core.specs.Core.{gate as gate_of};
 
-use nb_closing::{Closer, Step};
 use nb_log::{Entry, Event, Log, Refusal};
 use nb_runs::{Started, Ticket};
-use nb_sheet::{Edit, Sheet};
-use nb_value::{Answer, Items, Outcome, Pairs, Text, Value};
-use nb_wave::Footing;
+use nb_sheet::Sheet;
+use nb_value::{Pairs, Value};
 use std::alloc::{AllocError, Global};
 use std::marker::Model;
+
+mod answers;
+mod closing;
+mod editing;
+mod notices;
+mod room;
 
 /// The log, with the state that it leaves. Each call adds one entry, whatever entry it is: that it fits is the core's to ask.
 #[derive(Drop)]
@@ -31,8 +27,9 @@ pub struct Machine {
 }
 
 impl Model for Machine {
+    ghost use Rattle.std.specs.Prelude.{vec_len, vec_capacity};
     ghost use Rattle.nb_core.specs.Codes.{kept_code};
-    ghost use Rattle.nb_core.specs.Stands.{Kept, Stands};
+    ghost use Rattle.nb_core.specs.Stands.{Kept, Stands, room_of};
     ghost use Rattle.nb_value.specs.contracts.value.Value as value;
     ghost use Rattle.nb_log.specs.contracts.entry.Entry as entry;
 
@@ -40,7 +37,7 @@ impl Model for Machine {
 
     ghost coded = { kept_code value.the_row.coded entry.the_row.coded };
 
-    ghost view = { λ m. record { history = record { builtins = m.sheet.sheet.builtins; log = m.log.entries }; room = m.log.room } };
+    ghost view = { λ m. record { history = record { builtins = m.sheet.sheet.builtins; log = m.log.entries }; room = room_of m.log.room (vec_capacity m.tickets) (vec_len m.tickets) } };
 
     ghost invariant = { λ m. Stands m.sheet.sheet m.starts.items m.disposed m.tickets.items m.log.entries };
 }
@@ -67,7 +64,7 @@ impl Machine {
         ensures same { self.new.history ≡ self.old.history }
         ensures room { OnOk result (n ≤ self.new.room) }
     {
-        self.log.reserve(n)
+        room::reserve(&mut self.log, &mut self.tickets, n)
     }
 
     /// An event is refused.
@@ -109,7 +106,6 @@ impl Machine {
         ensures entry { self.new.history ≡ plus self.old.history (Entry.Frame editor) }
         ensures room { self.old.room ≤ self.new.room + 1 }
     {
-        let _place = self.log.len() + 1;
         nb_runs::starts::pull_all(&self.sheet, &mut self.starts);
         self.log.push(Entry::Frame { editor });
     }
@@ -122,77 +118,6 @@ impl Machine {
     {
         nb_runs::tickets::settle(&mut self.tickets, ticket);
         self.log.push(Entry::Late { editor, ticket });
-    }
-
-    /// A ticket is settled by an editor. It fails only without memory, and then the answer comes back. It copies the answer.
-    pub fn settled(&mut self, editor: u8, ticket: u64, answer: Answer) -> Result<(), (Answer, AllocError)>
-        ensures ok { OnOk result (self.new.history ≡ plus self.old.history (Entry.Settled editor ticket answer)) }
-        ensures err { IfErr result (λ refused. (refused.0 ≡ answer) × (self.new.history ≡ self.old.history)) }
-    {
-        loop {}
-    }
-
-    /// A loader answers a ticket. It fails only without memory, and then the answer comes back. It copies the answer.
-    pub fn loaded(&mut self, ticket: u64, answer: Answer) -> Result<(), (Answer, AllocError)>
-        ensures ok { OnOk result (self.new.history ≡ plus self.old.history (Entry.Loaded ticket answer)) }
-        ensures err { IfErr result (λ refused. (refused.0 ≡ answer) × (self.new.history ≡ self.old.history)) }
-    {
-        loop {}
-    }
-
-    /// A variable shows an outcome. `entry` goes into the log.
-    pub fn show(&mut self, var: u32, entry: Entry, outcome: Outcome, cleanups: Items<Value>, ends: bool)
-        requires room { 0 < self.old.room }
-        requires same { entry ≡ shown_entry var outcome }
-        requires cleanups { cleanups ≡ cleanups_now (standing self.old.history) var }
-        requires ends { ends ≡ ends_at_once (standing self.old.history) var }
-        ensures entry { self.new.history ≡ plus self.old.history entry }
-        ensures room { self.old.room ≤ self.new.room + 1 }
-    {
-        loop {}
-    }
-
-    /// A variable asks for a fetch by this key, by the next ticket. `entry` goes into the log. It fails only without memory;
-    /// then nothing has changed.
-    pub fn ask(&mut self, var: u32, entry: Entry, key: Text, cleanups: Items<Value>)
-        requires room { 0 < self.old.room }
-        requires same { entry ≡ Entry.Asked var (length (standing self.old.history).tickets + 1) key }
-        requires cleanups { cleanups ≡ cleanups_now (standing self.old.history) var }
-        ensures entry { self.new.history ≡ plus self.old.history entry }
-        ensures room { self.old.room ≤ self.new.room + 1 }
-    {
-        loop {}
-    }
-
-    /// A generator has no further value.
-    pub fn end(&mut self, var: u32, cleanups: Items<Value>)
-        requires room { 0 < self.old.room }
-        requires cleanups { cleanups ≡ cleanups_now (standing self.old.history) var }
-        ensures entry { self.new.history ≡ plus self.old.history (Entry.Ended var) }
-        ensures room { self.old.room ≤ self.new.room + 1 }
-    {
-        loop {}
-    }
-
-    /// All steps of what closes. It takes no memory.
-    pub fn commit(&mut self, steps: Vec<Step>)
-        requires room { length steps.items ≤ self.old.room }
-        requires plans { Plans (standing self.old.history) steps.items }
-        ensures { self.new.history ≡ plus_all self.old.history (planned (standing self.old.history) steps.items) }
-    {
-        loop {}
-    }
-
-    /// Does an edit that isn't refused, and then what closes. The closer takes over the ties of the new sheet. It fails only
-    /// without memory; then nothing has changed, and the edit comes back.
-    pub fn edit(&mut self, closer: &mut Closer, editor: u8, edit: Edit) -> Result<(), (Edit, AllocError)>
-        requires admitted { refusal (standing self.old.history).sheet edit ≡ None }
-        requires ties { closer.old ≡ all_ties (standing self.old.history).sheet }
-        ensures ok { OnOk result (Gains self.old.history (Entry.Edit editor edit) self.new.history) }
-        ensures ties { closer.new ≡ all_ties (standing self.new.history).sheet }
-        ensures err { IfErr result (λ refused. (refused.0 ≡ edit) × (self.new.history ≡ self.old.history)) }
-    {
-        loop {}
     }
 
     // ---- looks, which take no memory

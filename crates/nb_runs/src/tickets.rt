@@ -1,4 +1,4 @@
-ghost use Rattle.std.specs.Prelude.{◌≡◌};
+ghost use Rattle.std.specs.Prelude.{◌≡◌, vec_len, vec_capacity};
 ghost use Rattle.std.specs.Option.{option_copied};
 ghost use Rattle.std.specs.Str.{bytes_eq};
 ghost use Rattle.nb_sheet.specs.Lists.{nth};
@@ -51,9 +51,11 @@ fn settle_one(ticket: &mut Ticket)
     ticket.settled = true;
 }
 
-/// A ticket is settled from now on.
+/// A ticket is settled from now on. There is room for as many more as before.
 pub fn settle(tickets: &mut Vec<Ticket>, t: u64)
-    ensures { tickets.new.items ≡ settled_at tickets.old.items t }
+    ensures items { tickets.new.items ≡ settled_at tickets.old.items t }
+    ensures len { vec_len tickets.new ≡ vec_len tickets.old }
+    ensures capacity { vec_capacity tickets.new ≡ vec_capacity tickets.old }
 {
     if t == 0 || t > tickets.len() as u64 {
         return;
