@@ -9,10 +9,11 @@ use Rattle.nb_graph.specs.Graph.{or_nothing, needs_of as list_of, with_needs, Is
 use Rattle.nb_graph.proofs.Reaches.{has_head, has_tail, has_cases, Needs_trans}
 use Rattle.nb_graph.proofs.Lists.{has_front, has_end, has_push}
 use Rattle.nb_wave.specs.declared.row.Row.{Row}
+use Rattle.nb_wave.specs.declared.users.Users.{Users}
 use Rattle.nb_wave.specs.Rules.{passes, is_overtaken, pulls_on, held, needs_of, rests_on, NeedsVariables}
 use Rattle.nb_wave.specs.Steps.{stepped}
 use Rattle.nb_wave.specs.Marks.{marked, AreMarks}
-use Rattle.nb_wave.specs.Users.{added, added_all, IsReversed, AreMarked}
+use Rattle.nb_wave.specs.Users.{added, added_all, IsReversed, AreMarked, Reverse, AreUsers}
 use Rattle.nb_wave.proofs.Places.{needs_read}
 use Rattle.nb_wave.proofs.Spreads.{needs_inside, rests_from, rests_to}
 use Rattle.nb_wave.proofs.Dues.{same_tests, needs_number}
@@ -167,6 +168,13 @@ reversed_from rows n lists graph i e past size same =
           ap (λ (l : List ℕ). has l v) (at u less) ∙ all_each 0 rows start u v v (omega (arith, less, length-replicate (length rows) empty)) (omega arith) h;
     }
 
+-- the list of v is of those that need it
+pub users_of : (rows : List Row) (graph : List (List ℕ)) (v : ℕ) (users : List ℕ) → IsReversed rows graph → users ≡ list_of graph v → AreUsers rows v users
+users_of rows graph v users r e = record {
+  each = λ w h. ap (λ (l : List ℕ). has l w) e ∙ r.each v w h;
+  only = λ w h. r.only v w (ap (λ (l : List ℕ). has l w) (sym e) ∙ h);
+}
+
 -- a step leaves who needs whom
 pub reversed_stepped : (f : Row → Row) → Mild f → (v n : ℕ) (rows new : List Row) (graph : List (List ℕ)) → new ≡ stepped f v n rows → IsReversed rows graph → IsReversed new graph
 reversed_stepped f mild v n rows new graph e r =
@@ -176,6 +184,10 @@ reversed_stepped f mild v n rows new graph e r =
       only = λ u w h. ap (λ (l : List ℕ). has l u) (needs_stepped f mild v n rows w) ∙ r.only u w h;
       each = λ u w h. r.each u w (ap (λ (l : List ℕ). has l u) (sym (needs_stepped f mild v n rows w)) ∙ h);
     })
+
+pub reverse_stepped : (f : Row → Row) → Mild f → (v n : ℕ) (rows new : List Row) (users : Users) → new ≡ stepped f v n rows → Reverse rows users → Reverse new users
+reverse_stepped f mild v n rows new users e r =
+    record { lists = reversed_stepped f mild v n rows new users.lists.items e r.lists; graph = reversed_stepped f mild v n rows new users.graph e r.graph }
 
 -- ---- reach
 

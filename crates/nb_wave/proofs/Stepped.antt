@@ -33,7 +33,7 @@ length_changed f zero (x ∷ rows) = refl
 length_changed f (suc v) (x ∷ rows) = ap suc (length_changed f v rows)
 
 -- what f leaves of each row it leaves of the rows
-kept_changed : {A : Type 0} (d : A) (g : Row → A) (f : Row → Row) → ((r : Row) → g (f r) ≡ g r) → (v : ℕ) (rows : List Row) (w : ℕ) → from_option d g (slice_get (changed f v rows) w) ≡ from_option d g (slice_get rows w)
+pub kept_changed : {A : Type 0} (d : A) (g : Row → A) (f : Row → Row) → ((r : Row) → g (f r) ≡ g r) → (v : ℕ) (rows : List Row) (w : ℕ) → from_option d g (slice_get (changed f v rows) w) ≡ from_option d g (slice_get rows w)
 kept_changed d g f h v [] w = refl
 kept_changed d g f h zero (x ∷ rows) zero = h x
 kept_changed d g f h zero (x ∷ rows) (suc w) = refl

@@ -3,6 +3,7 @@ use Rattle.std.specs.Prelude.{ℕ, ◌+◌, ◌≡◌, ◌<◌, ◌++◌, Bool, 
 use Rattle.nb_graph.specs.Needs.{has}
 use Rattle.nb_graph.specs.Graph.{needs_of as list_of}
 use Rattle.nb_wave.specs.declared.row.Row.{Row}
+use Rattle.nb_wave.specs.declared.users.Users.{Users}
 use Rattle.nb_wave.specs.Rules.{needs_of}
 use Rattle.nb_wave.specs.Marks.{marked}
 
@@ -21,6 +22,15 @@ pub record IsReversed (rows : List Row) (graph : List (List ℕ)) : Type 0 where
   pub size : length graph ≡ length rows
   pub only : (u v : ℕ) → has (list_of graph u) v ≡ true → has (needs_of rows v) u ≡ true
   pub each : (u v : ℕ) → has (needs_of rows v) u ≡ true → has (list_of graph u) v ≡ true
+
+pub record Reverse (rows : List Row) (users : Users) : Type 0 where
+  pub lists : IsReversed rows users.lists.items
+  pub graph : IsReversed rows users.graph
+
+-- these need v directly
+pub record AreUsers (rows : List Row) (v : ℕ) (users : List ℕ) : Type 0 where
+  pub each : (w : ℕ) → has (needs_of rows w) v ≡ true → has users w ≡ true
+  pub only : (w : ℕ) → has users w ≡ true → has (needs_of rows w) v ≡ true
 
 -- these are the marked ones of the first i
 pub record AreMarked (marks : List Bool) (i : ℕ) (vars : List ℕ) : Type 0 where

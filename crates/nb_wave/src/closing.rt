@@ -5,7 +5,7 @@ ghost use Rattle.nb_wave.specs.declared.row.Row.{Row as RowValue};
 ghost use Rattle.nb_wave.specs.Rules.{leaving, least, IsSound};
 ghost use Rattle.nb_wave.specs.Changes.{IsSince};
 ghost use Rattle.nb_wave.specs.Steps.{next_step, Runs, Closes};
-ghost use Rattle.nb_wave.specs.Users.{IsReversed};
+ghost use Rattle.nb_wave.specs.Users.{Reverse};
 ghost use Rattle.nb_wave.specs.Wave.{IsRows};
 
 use crate::due::next_leaving;
@@ -14,28 +14,30 @@ use crate::row::Row;
 use crate::step::Step;
 use crate::steps::{begin, leave};
 use crate::table::Change;
-use crate::users::{near, next_start, users};
-use nb_graph::Graph;
+use crate::users::{Users, near, next_start};
 use std::alloc::{AllocError, Global};
 
-/// Makes all idle that are leaving, the least first.
+/// Makes all idle that are leaving, the least first. Each takes a pass over variables, and what it changes.
 fn leave_all(
     alloc: Global,
     rows: &mut Vec<Row>,
     changes: &mut Vec<Change>,
+    users: &Users,
 ) -> Result<Vec<Step>, AllocError>
     requires rows { IsRows rows.old.items }
+    requires users { Reverse rows.old.items users.now }
     requires sound { IsSound rows.old.items }
     ensures runs { IfOk result (λ steps. (place : ℕ) → Runs rows.old.items place steps.items rows.new.items) }
     ensures rows { OnOk result (IsRows rows.new.items) }
     ensures sound { OnOk result (IsSound rows.new.items) }
+    ensures users { OnOk result (Reverse rows.new.items users.now) }
     ensures none { OnOk result (least leaving rows.new.items ≡ None) }
     ensures few { IfOk result (λ steps. length steps.items ≤ 1024) }
     ensures since { IsSince changes.old.items rows.old.items changes.new.items rows.new.items }
 {
     let mut steps = Vec::new(alloc);
     while let Some(v) = next_leaving(rows) {
-        leave(alloc, rows, changes, v)?;
+        leave(alloc, rows, changes, users.of(v), v)?;
         steps.push(Step::Left(v))?;
     }
     Ok(steps)
@@ -47,12 +49,12 @@ fn start_all(
     alloc: Global,
     rows: &mut Vec<Row>,
     changes: &mut Vec<Change>,
-    users: &Graph,
+    users: &Users,
     place: u64,
     steps: &mut Vec<Step>,
 ) -> Result<(), AllocError>
     requires rows { IsRows rows.old.items }
-    requires users { IsReversed rows.old.items users.now }
+    requires users { Reverse rows.old.items users.now }
     requires sound { IsSound rows.old.items }
     requires none { least leaving rows.old.items ≡ None }
     requires fits { place + 1024 < 2 ^ 64 }
@@ -64,8 +66,8 @@ fn start_all(
     ensures since { IsSince changes.old.items rows.old.items changes.new.items rows.new.items }
 {
     let mut next = place;
-    while let Some(v) = next_start(alloc, users, rows)? {
-        begin(alloc, rows, changes, v, next)?;
+    while let Some(v) = next_start(alloc, &users.graph, rows)? {
+        begin(alloc, rows, changes, users.of(v), v, next)?;
         steps.push(Step::Pending(v))?;
         next += 1;
     }
@@ -78,12 +80,12 @@ fn start_each(
     alloc: Global,
     rows: &mut Vec<Row>,
     changes: &mut Vec<Change>,
-    users: &Graph,
+    users: &Users,
     place: u64,
     steps: &mut Vec<Step>,
 ) -> Result<(), AllocError>
     requires rows { IsRows rows.old.items }
-    requires users { IsReversed rows.old.items users.now }
+    requires users { Reverse rows.old.items users.now }
     requires sound { IsSound rows.old.items }
     requires none { least leaving rows.old.items ≡ None }
     requires fits { place + 1024 < 2 ^ 64 }
@@ -94,9 +96,9 @@ fn start_each(
     ensures ends { OnOk result (next_step rows.new.items ≡ None) }
     ensures since { IsSince changes.old.items rows.old.items changes.new.items rows.new.items }
 {
-    let mut near = near(alloc, users, rows)?;
+    let mut near = near(alloc, &users.graph, rows)?;
     if are_quick(rows, &near, place) {
-        start_quickly(alloc, rows, changes, &mut near, place, steps)?;
+        start_quickly(alloc, rows, changes, users, &mut near, place, steps)?;
     } else {
         start_all(alloc, rows, changes, users, place, steps)?;
     }
@@ -117,9 +119,9 @@ pub fn close_all(
     ensures rows { OnOk result (IsRows rows.new.items) }
     ensures since { IsSince changes.old.items rows.old.items changes.new.items rows.new.items }
 {
-    let mut steps = leave_all(alloc, rows, changes)?;
+    let users = Users::new(alloc, rows)?;
+    let mut steps = leave_all(alloc, rows, changes, &users)?;
     let start = place + steps.len() as u64;
-    let users = users(alloc, rows)?;
     start_each(alloc, rows, changes, &users, start, &mut steps)?;
     Ok(steps)
 }

@@ -11,6 +11,7 @@ ghost use Rattle.nb_wave.specs.Changes.{IsSince};
 ghost use Rattle.nb_wave.specs.Marks.{marked, AreMarks};
 ghost use Rattle.nb_wave.specs.Steps.{next_step, Runs};
 ghost use Rattle.nb_wave.specs.QuickRows.{starts_next, AllBelow, Follows as DoesFollow, IsQuick, AreQuick};
+ghost use Rattle.nb_wave.specs.Users.{Reverse};
 ghost use Rattle.nb_wave.specs.Wave.{IsRows};
 
 use crate::due::{any_marked, pulls};
@@ -18,6 +19,7 @@ use crate::row::Row;
 use crate::step::Step;
 use crate::steps::begin;
 use crate::table::Change;
+use crate::users::Users;
 use std::alloc::{AllocError, Global};
 
 /// Whether all numbers are below a place.
@@ -123,10 +125,12 @@ pub fn start_quickly(
     alloc: Global,
     rows: &mut Vec<Row>,
     changes: &mut Vec<Change>,
+    users: &Users,
     near: &mut Vec<bool>,
     place: u64,
     steps: &mut Vec<Step>,
 ) -> Result<(), AllocError>
+    requires users { Reverse rows.old.items users.now }
     requires quick { AreQuick rows.old.items near.old.items place }
     requires rows { IsRows rows.old.items }
     requires sound { IsSound rows.old.items }
@@ -141,7 +145,7 @@ pub fn start_quickly(
 {
     let mut next = place;
     while let Some(v) = next_near(rows, near) {
-        begin(alloc, rows, changes, v, next)?;
+        begin(alloc, rows, changes, users.of(v), v, next)?;
         near[v as usize] = false;
         steps.push(Step::Pending(v))?;
         next += 1;

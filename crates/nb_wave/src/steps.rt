@@ -1,8 +1,8 @@
 //! What a step changes.
 
 ghost use Rattle.std.specs.Prelude.{◌≡◌, ◌≤◌, ◌<◌, ◌^◌, cond, length, map, IfOk, OnOk};
-ghost use Rattle.nb_graph.specs.Needs.{has};
 ghost use Rattle.nb_wave.specs.Changes.{IsSince};
+ghost use Rattle.nb_wave.specs.Users.{AreUsers};
 ghost use Rattle.nb_wave.specs.Steps.{renumbered as renumbering, resting as rests, rested as resting_row, ended as ended_row, begun as begun_row, changed, stepped, is_at};
 
 use crate::footing::Footing;
@@ -107,14 +107,7 @@ fn begun(alloc: Global, row: &Row) -> Result<Row, AllocError>
     })
 }
 
-/// Whether a variable is among these.
-fn contains(vars: &[u32], v: u32) -> bool
-    ensures { result ≡ has vars.now v }
-{
-    vars.iter().any(|u| *u == v)
-}
-
-/// Sets the start number and renewal of `v` to `n` in the row at `u`, if that needs `v`.
+/// Sets the start number and renewal of `v` to `n` in the row at `u`.
 fn rest_one(
     alloc: Global,
     rows: &mut Vec<Row>,
@@ -127,64 +120,65 @@ fn rest_one(
     ensures ok { OnOk result (rows.new.items ≡ changed (resting_row v n) u rows.old.items) }
     ensures since { IsSince changes.old.items rows.old.items changes.new.items rows.new.items }
 {
-    if contains(rows[u as usize].needs.as_slice(), v) {
-        let row = rested(alloc, &rows[u as usize], v, n)?;
-        replace(rows, changes, u, row)?;
-    }
+    let row = rested(alloc, &rows[u as usize], v, n)?;
+    replace(rows, changes, u, row)?;
     Ok(())
 }
 
-/// Sets the start number and renewal of `v` to `n` for all that need it, in one pass over variables and needs.
+/// Sets the start number and renewal of `v` to `n` for all that need it, in one pass over what those need.
 fn rest_all(
     alloc: Global,
     rows: &mut Vec<Row>,
     changes: &mut Vec<Change>,
+    users: &[u32],
     v: u32,
     n: u64,
 ) -> Result<(), AllocError>
-    requires { length rows.old.items < 2 ^ 32 }
+    requires { AreUsers rows.old.items v users.now }
     ensures ok { OnOk result (rows.new.items ≡ map (resting_row v n) rows.old.items) }
     ensures since { IsSince changes.old.items rows.old.items changes.new.items rows.new.items }
 {
-    for u in 0..rows.len() {
-        rest_one(alloc, rows, changes, u as u32, v, n)?;
+    for u in users {
+        rest_one(alloc, rows, changes, *u, v, n)?;
     }
     Ok(())
 }
 
-/// Makes a variable idle.
+/// Makes a variable idle, where those that need it directly are known.
 pub fn leave(
     alloc: Global,
     rows: &mut Vec<Row>,
     changes: &mut Vec<Change>,
+    users: &[u32],
     v: u32,
 ) -> Result<(), AllocError>
-    requires few { length rows.old.items < 2 ^ 32 }
     requires row { v < length rows.old.items }
+    requires users { AreUsers rows.old.items v users.now }
     ensures ok { OnOk result (rows.new.items ≡ stepped ended_row v 0 rows.old.items) }
     ensures since { IsSince changes.old.items rows.old.items changes.new.items rows.new.items }
 {
     let row = ended(alloc, &rows[v as usize])?;
     replace(rows, changes, v, row)?;
-    rest_all(alloc, rows, changes, v, 0)?;
+    rest_all(alloc, rows, changes, users, v, 0)?;
     Ok(())
 }
 
-/// Starts a variable at a place.
+/// Starts a variable at a place, where those that need it directly are known.
 pub fn begin(
     alloc: Global,
     rows: &mut Vec<Row>,
     changes: &mut Vec<Change>,
+    users: &[u32],
     v: u32,
     place: u64,
 ) -> Result<(), AllocError>
-    requires few { length rows.old.items < 2 ^ 32 }
     requires row { v < length rows.old.items }
+    requires users { AreUsers rows.old.items v users.now }
     ensures ok { OnOk result (rows.new.items ≡ stepped begun_row v place rows.old.items) }
     ensures since { IsSince changes.old.items rows.old.items changes.new.items rows.new.items }
 {
     let row = begun(alloc, &rows[v as usize])?;
     replace(rows, changes, v, row)?;
-    rest_all(alloc, rows, changes, v, place)?;
+    rest_all(alloc, rows, changes, users, v, place)?;
     Ok(())
 }

@@ -2,14 +2,24 @@
 
 ghost use Rattle.std.specs.Prelude.{◌≡◌, ◌<◌, ◌≤◌, ◌^◌, ℕ, true, [], length, map, replicate, IfOk, OnOk};
 ghost use Rattle.nb_graph.specs.Needs.{has};
+ghost use Rattle.nb_graph.specs.Graph.{needs_of as list_of};
 ghost use Rattle.nb_wave.specs.Rules.{is_overtaken, passes, held as are_held, due as are_due, least, may_start, rests_on, NeedsVariables};
 ghost use Rattle.nb_wave.specs.Marks.{marked, AreMarks};
-ghost use Rattle.nb_wave.specs.Users.{added, added_all, IsReversed, AreMarked};
+ghost use Rattle.nb_wave.specs.Users.{added, added_all, IsReversed, AreMarked, Reverse};
 
 use crate::due::{is_due, least_start, pulls};
 use crate::row::{Row, Vars};
 use nb_graph::Graph;
 use std::alloc::{AllocError, Global};
+
+/// Who needs whom, the other way round.
+#[derive(Drop)]
+pub struct Users {
+    /// Of each variable, those that need it directly.
+    pub lists: Vec<Vars>,
+    /// The same, as a graph.
+    pub graph: Graph,
+}
 
 /// Lists of no variables.
 fn no_lists(alloc: Global, n: usize) -> Result<Vec<Vars>, AllocError>
@@ -46,18 +56,39 @@ fn user_lists(alloc: Global, rows: &[Row]) -> Result<Vec<Vars>, AllocError>
     Ok(lists)
 }
 
-/// The graph of who is needed by whom, in time linear in variables and needs.
-pub fn users(alloc: Global, rows: &[Row]) -> Result<Graph, AllocError>
+/// The graph of these lists, in time linear in them.
+fn graph_of(alloc: Global, rows: &[Row], lists: &Vec<Vars>) -> Result<Graph, AllocError>
     requires few { length rows.now < 2 ^ 32 }
     requires needs { NeedsVariables rows.now }
+    requires lists { lists.now.items ≡ added_all 0 rows.now (replicate (length rows.now) []) }
     ensures { IfOk result (λ graph. IsReversed rows.now graph) }
 {
-    let lists = user_lists(alloc, rows)?;
     let mut graph = Graph::new(alloc, rows.len() as u32)?;
     for u in 0..rows.len() {
         graph.set(u as u32, lists[u].as_slice())?;
     }
     Ok(graph)
+}
+
+impl Users {
+    /// Of these rows, in time linear in variables and needs. It fails only without memory.
+    pub fn new(alloc: Global, rows: &[Row]) -> Result<Users, AllocError>
+        requires few { length rows.now < 2 ^ 32 }
+        requires needs { NeedsVariables rows.now }
+        ensures { IfOk result (λ users. Reverse rows.now users) }
+    {
+        let lists = user_lists(alloc, rows)?;
+        let graph = graph_of(alloc, rows, &lists)?;
+        Ok(Users { lists, graph })
+    }
+
+    /// Those that need a variable directly. It takes no memory.
+    pub fn of(&self, v: u32) -> &[u32]
+        requires { v < length self.now.lists.items }
+        ensures { result.now ≡ list_of self.now.lists.items v }
+    {
+        self.lists[v as usize].as_slice()
+    }
 }
 
 /// The numbers of those that are marked.

@@ -1,9 +1,11 @@
-use Rattle.std.proofs.Common.{◌≡◌, sym, ap, subst, refl, List, length, Some, arith}
+use Rattle.std.proofs.Common.{◌≡◌, ◌<◌, sym, ap, subst, refl, List, length, Some, arith}
 use Rattle.nb_wave.specs.declared.step.Step.{Step}
 use Rattle.nb_wave.specs.Rules.{leaving, least}
-use Rattle.nb_wave.specs.Steps.{Runs}
+use Rattle.nb_wave.specs.Steps.{ended, Runs}
 use Rattle.nb_wave.proofs.Back.{since_refl, since_trans}
 use Rattle.nb_wave.proofs.Runs.{IsLeast, least_some, leaving_few}
+use Rattle.nb_wave.proofs.Stepped.{mild_ended}
+use Rattle.nb_wave.proofs.Reversed.{users_of, reverse_stepped}
 use Rattle.nb_wave.proofs.Closings.{found, left_rows, left_sound, left_runs, left_fewer, left_few}
 use Rattle.nb_wave.proofs.closing.leave_all.Goals as goal
 
@@ -14,6 +16,7 @@ loop-v-init c =
     record {
       rows = c.requires.rows;
       sound = c.requires.sound;
+      users = c.requires.users;
       runs = λ place. subst (λ (l : List Step). Runs rows place l rows) (sym c.new-steps.ensures.items) refl;
       few = omega (arith, none, leaving_few rows c.requires.rows.all);
       since = since_refl c.args.changes.now.items rows;
@@ -53,7 +56,18 @@ loop-v-preserved c =
     record {
       rows = left_rows first rows new steps more v h e f i.rows;
       sound = left_sound first rows new steps more v h e f i.sound;
+      users = reverse_stepped ended mild_ended v 0 rows new c.args.users.now e i.users;
       runs = λ place. left_runs first rows new steps more v h e f place (i.runs place);
       few = left_few first rows new steps more v h e f i.few;
       since = since_trans c.args.changes.now.items c.loop-v.changes.items c.leave.new.changes.items first rows new i.since c.leave.ensures.since;
     }
+
+pub leave-requires-clause-users : goal.leave-requires-clause-users
+leave-requires-clause-users c = users_of c.loop-v.rows.items c.args.users.now.lists.items c.in-Some.v c.of.result.now c.loop-v.invariant.users.lists c.of.ensures
+
+pub of-requires : goal.of-requires
+of-requires c =
+    let low : c.in-Some.v < length c.loop-v.rows.items =
+    IsLeast.inside (least_some leaving c.loop-v.rows.items c.in-Some.v
+    (found leaving c.deref.result.now c.loop-v.rows.items c.next_leaving.result (Some c.in-Some.v) c.next_leaving.ensures c.deref.ensures.value c.in-Some.is)) in
+    omega (arith, low, c.loop-v.invariant.users.lists.size)

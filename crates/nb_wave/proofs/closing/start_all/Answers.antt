@@ -3,7 +3,7 @@ use Rattle.nb_wave.specs.Rules.{may_start, least}
 use Rattle.nb_wave.specs.Steps.{begun, Runs}
 use Rattle.nb_wave.proofs.Back.{since_refl, since_trans}
 use Rattle.nb_wave.proofs.Stepped.{mild_begun}
-use Rattle.nb_wave.proofs.Reversed.{reversed_stepped}
+use Rattle.nb_wave.proofs.Reversed.{users_of, reverse_stepped}
 use Rattle.nb_wave.proofs.Runs.{IsLeast, least_some, still_starting, starting_few}
 use Rattle.nb_wave.proofs.Closings.{found, begun_rows, begun_sound, begun_none, begun_runs, begun_at, begun_fewer}
 use Rattle.nb_wave.proofs.closing.start_all.Goals as goal
@@ -67,7 +67,7 @@ loop-v-preserved c =
     record {
       rows = begun_rows first rows new steps more v next i.rows i.sound i.none h e f;
       sound = begun_sound first rows new steps more v next i.rows i.sound i.none h e f;
-      users = reversed_stepped begun mild_begun v next rows new c.args.users.now e i.users;
+      users = reverse_stepped begun mild_begun v next rows new c.args.users.now e i.users;
       none = begun_none first rows new steps more v next i.rows i.sound i.none h e f;
       runs = λ start p at runs.
           let t : (p + length steps ≡ next) × Runs start p steps rows = i.runs start p at runs in (
@@ -77,3 +77,13 @@ loop-v-preserved c =
       few = omega (arith, less, i.few);
       since = since_trans c.args.changes.now.items c.loop-v.changes.items c.begin.new.changes.items first rows new i.since c.begin.ensures.since;
     }
+
+pub begin-requires-clause-users : goal.begin-requires-clause-users
+begin-requires-clause-users c = users_of c.loop-v.rows.items c.args.users.now.lists.items c.in-Some.v c.of.result.now c.loop-v.invariant.users.lists c.of.ensures
+
+pub of-requires : goal.of-requires
+of-requires c =
+    let low : c.in-Some.v < length c.loop-v.rows.items =
+    IsLeast.inside (least_some may_start c.loop-v.rows.items c.in-Some.v
+    (found may_start c.deref.result.now c.loop-v.rows.items c.in_ok-v.field-0 (Some c.in-Some.v) c.in_ok-v.ensures c.deref.ensures.value c.in-Some.is)) in
+    omega (arith, low, c.loop-v.invariant.users.lists.size)

@@ -3,7 +3,7 @@ use Rattle.nb_wave.specs.declared.row.Row.{Row}
 use Rattle.nb_wave.specs.Rules.{leaving, least, IsSound}
 use Rattle.nb_wave.specs.Changes.{IsSince}
 use Rattle.nb_wave.specs.Steps.{Runs}
-use Rattle.nb_wave.specs.Users.{IsReversed}
+use Rattle.nb_wave.specs.Users.{Reverse}
 use Rattle.nb_wave.specs.Wave.{IsRows}
 use Rattle.nb_wave.proofs.Runs.{still_starting}
 use Rattle.nb_wave.proofs.closing.start_all.Given as goal
@@ -13,7 +13,7 @@ invariant-loop-v l =
     record {
       rows : IsRows l.rows.items;
       sound : IsSound l.rows.items;
-      users : IsReversed l.rows.items l.users;
+      users : Reverse l.rows.items l.users;
       none : least leaving l.rows.items ≡ None;
       runs : (first : List Row) (p : ℕ) → p + length l.fn.steps.items ≡ l.place → Runs first p l.fn.steps.items l.fn.rows.items
           → (p + length l.steps.items ≡ l.next) × Runs first p l.steps.items l.rows.items;

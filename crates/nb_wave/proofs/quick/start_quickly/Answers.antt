@@ -1,8 +1,10 @@
 use Rattle.std.proofs.Common.{◌≡◌, ◌+◌, ◌<◌, refl, false, length, set, Some, None, arith}
 use Rattle.nb_wave.specs.Rules.{may_start, least}
-use Rattle.nb_wave.specs.Steps.{Runs}
+use Rattle.nb_wave.specs.Steps.{begun, Runs}
 use Rattle.nb_wave.proofs.Back.{since_refl, since_trans}
 use Rattle.nb_wave.proofs.Runs.{IsLeast, least_some, next_none, still_starting, starting_few}
+use Rattle.nb_wave.proofs.Stepped.{mild_begun}
+use Rattle.nb_wave.proofs.Reversed.{users_of, reverse_stepped}
 use Rattle.nb_wave.proofs.Closings.{begun_rows, begun_sound, begun_none, begun_runs, begun_at, begun_fewer}
 use Rattle.nb_wave.proofs.QuickLoops.{found_next, quick_started}
 use Rattle.nb_wave.proofs.quick.start_quickly.Goals as goal
@@ -13,6 +15,7 @@ loop-v-init c =
     record {
       rows = c.requires.rows;
       sound = c.requires.sound;
+      users = c.requires.users;
       quick = c.requires.quick;
       none = c.requires.none;
       runs = λ first p at runs. (at, runs);
@@ -80,6 +83,7 @@ loop-v-preserved c =
     record {
       rows = begun_rows first rows new steps more v next i.rows i.sound i.none h e f;
       sound = begun_sound first rows new steps more v next i.rows i.sound i.none h e f;
+      users = reverse_stepped begun mild_begun v next rows new c.args.users.now e i.users;
       quick = quick_started rows new c.loop-v.near.items (set c.loop-v.near.items v false) next v i.rows i.sound i.quick i.none h e refl;
       none = begun_none first rows new steps more v next i.rows i.sound i.none h e f;
       runs = λ start p at runs.
@@ -97,3 +101,14 @@ returns-clause-ends c =
     next_none c.loop-v.rows.items i.none
     (found_next c.deref.result.now c.loop-v.rows.items c.deref-in-loop-v.result.now c.loop-v.near.items c.loop-v.next c.next_near.result None i.rows i.sound i.quick c.next_near.ensures c.deref.ensures.value
     c.deref-in-loop-v.ensures.value c.in_default.is)
+
+pub begin-requires-clause-users : goal.begin-requires-clause-users
+begin-requires-clause-users c = users_of c.loop-v.rows.items c.args.users.now.lists.items c.in-Some.v c.of.result.now c.loop-v.invariant.users.lists c.of.ensures
+
+pub of-requires : goal.of-requires
+of-requires c =
+    let low : c.in-Some.v < length c.loop-v.rows.items =
+    IsLeast.inside (least_some may_start c.loop-v.rows.items c.in-Some.v
+    (found_next c.deref.result.now c.loop-v.rows.items c.deref-in-loop-v.result.now c.loop-v.near.items c.loop-v.next c.next_near.result (Some c.in-Some.v) c.loop-v.invariant.rows c.loop-v.invariant.sound c.loop-v.invariant.quick c.next_near.ensures
+    c.deref.ensures.value c.deref-in-loop-v.ensures.value c.in-Some.is)) in
+    omega (arith, low, c.loop-v.invariant.users.lists.size)

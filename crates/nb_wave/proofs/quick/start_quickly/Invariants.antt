@@ -4,6 +4,7 @@ use Rattle.nb_wave.specs.Rules.{leaving, least, IsSound}
 use Rattle.nb_wave.specs.Changes.{IsSince}
 use Rattle.nb_wave.specs.QuickRows.{AreQuick}
 use Rattle.nb_wave.specs.Steps.{Runs}
+use Rattle.nb_wave.specs.Users.{Reverse}
 use Rattle.nb_wave.specs.Wave.{IsRows}
 use Rattle.nb_wave.proofs.Runs.{still_starting}
 use Rattle.nb_wave.proofs.quick.start_quickly.Given as goal
@@ -13,6 +14,7 @@ invariant-loop-v l =
     record {
       rows : IsRows l.rows.items;
       sound : IsSound l.rows.items;
+      users : Reverse l.rows.items l.users;
       quick : AreQuick l.rows.items l.near.items l.next;
       none : least leaving l.rows.items ≡ None;
       runs : (first : List Row) (p : ℕ) → p + length l.fn.steps.items ≡ l.place → Runs first p l.fn.steps.items l.fn.rows.items

@@ -1,12 +1,12 @@
-use Rattle.std.proofs.Common.{arith}
+use Rattle.std.proofs.Common.{refl}
 use Rattle.nb_wave.specs.Steps.{ended}
 use Rattle.nb_wave.proofs.Back.{since_trans}
-use Rattle.nb_wave.proofs.Changing.{stepped_is}
+use Rattle.nb_wave.proofs.Changing.{stepped_is, users_replaced}
 use Rattle.nb_wave.proofs.steps.leave.Goals as goal
 
 pub returns-clause-ok : goal.returns-clause-ok
 returns-clause-ok c =
-    stepped_is ended c.args.v 0 c.args.rows.now.items c.replace.new.rows.items c.rest_all.new.rows.items c.index.result.now c.in_ok-row.row (omega arith) c.index.ensures c.in_ok-row.ensures
+    stepped_is ended c.args.v 0 c.args.rows.now.items c.replace.new.rows.items c.rest_all.new.rows.items c.index.result.now c.in_ok-row.row c.requires.row c.index.ensures c.in_ok-row.ensures
     c.in_ok-replace.ensures.ok c.in_ok-rest_all.ensures.ok
 
 pub returns-clause-since : goal.returns-clause-since
@@ -18,3 +18,8 @@ pub returns-in_err-rest_all-clause-since : goal.returns-in_err-rest_all-clause-s
 returns-in_err-rest_all-clause-since c =
     since_trans c.args.changes.now.items c.replace.new.changes.items c.rest_all.new.changes.items c.args.rows.now.items c.replace.new.rows.items c.rest_all.new.rows.items
     c.replace.ensures.since c.rest_all.ensures.since
+
+pub rest_all-requires : goal.rest_all-requires
+rest_all-requires c =
+    users_replaced ended (λ r. refl) c.args.v c.args.rows.now.items c.replace.new.rows.items c.args.users.now c.index.result.now c.in_ok-row.row c.requires.row c.index.ensures c.in_ok-row.ensures
+    c.in_ok-replace.ensures.ok c.requires.users

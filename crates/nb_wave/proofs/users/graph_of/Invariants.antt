@@ -1,6 +1,6 @@
 use Rattle.std.proofs.Common.{ℕ, ◌≡◌, ◌<◌, length}
 use Rattle.nb_graph.specs.Graph.{needs_of}
-use Rattle.nb_wave.proofs.users.users.Given as goal
+use Rattle.nb_wave.proofs.users.graph_of.Given as goal
 
 abbrev pub invariant-loop-u : goal.invariant-loop-u
 invariant-loop-u l =

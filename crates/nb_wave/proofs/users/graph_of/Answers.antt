@@ -2,28 +2,28 @@ use Rattle.std.proofs.Common.{ℕ, ◌<◌, ◌≡◌, ◌∙◌, ap, sym, List,
 use Rattle.nb_graph.specs.Needs.{has}
 use Rattle.nb_graph.specs.Graph.{needs_of as list_of}
 use Rattle.nb_wave.proofs.Reversed.{reversed_from, listed_inside, list_read, filled_more, length_with, length_listed}
-use Rattle.nb_wave.proofs.users.users.Goals as goal
+use Rattle.nb_wave.proofs.users.graph_of.Goals as goal
 
 pub index-requires : goal.index-requires
-index-requires c = omega (arith, length_listed c.args.rows.now c.in_ok-lists.lists.items c.in_ok-lists.ensures)
+index-requires c = omega (arith, length_listed c.args.rows.now c.args.lists.now.items c.requires.lists)
 
 pub set-requires-clause-nodes : goal.set-requires-clause-nodes
 set-requires-clause-nodes c =
     let rows = c.args.rows.now in
-    let lists = c.in_ok-lists.lists.items in
+    let lists = c.args.lists.now.items in
     let u = c.loop-u.u in
-    let inside : u < length lists = omega (arith, length_listed rows lists c.in_ok-lists.ensures) in
+    let inside : u < length lists = omega (arith, length_listed rows lists c.requires.lists) in
     let e : list_of lists u ≡ c.as_slice.result.now = list_read lists u c.index.result.now inside c.index.ensures ∙ sym c.as_slice.ensures in
-    λ w h. let low : w < length rows = listed_inside rows lists u w c.in_ok-lists.ensures (ap (λ (l : List ℕ). has l w) e ∙ h) in omega (arith, low, c.loop-u.invariant.size)
+    λ w h. let low : w < length rows = listed_inside rows lists u w c.requires.lists (ap (λ (l : List ℕ). has l w) e ∙ h) in omega (arith, low, c.loop-u.invariant.size)
 
 pub loop-u-preserved : goal.loop-u-preserved
 loop-u-preserved c =
     let rows = c.args.rows.now in
-    let lists = c.in_ok-lists.lists.items in
+    let lists = c.args.lists.now.items in
     let graph = c.loop-u.graph in
     let u = c.loop-u.u in
     let xs = c.as_slice.result.now in
-    let inside : u < length lists = omega (arith, length_listed rows lists c.in_ok-lists.ensures) in
+    let inside : u < length lists = omega (arith, length_listed rows lists c.requires.lists) in
     let e : xs ≡ list_of lists u = c.as_slice.ensures ∙ sym (list_read lists u c.index.result.now inside c.index.ensures) in
     record {
       size = ap (λ (l : List (List ℕ)). length l) c.in_ok-set.ensures.ok ∙ length_with graph u xs ∙ c.loop-u.invariant.size;
@@ -32,4 +32,4 @@ loop-u-preserved c =
 
 pub returns : goal.returns
 returns c =
-    reversed_from c.args.rows.now c.requires.needs c.in_ok-lists.lists.items c.loop-u.graph c.loop-u.u c.in_ok-lists.ensures (omega arith) c.loop-u.invariant.size c.loop-u.invariant.same
+    reversed_from c.args.rows.now c.requires.needs c.args.lists.now.items c.loop-u.graph c.loop-u.u c.requires.lists (omega arith) c.loop-u.invariant.size c.loop-u.invariant.same
