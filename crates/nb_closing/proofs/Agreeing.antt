@@ -7,14 +7,6 @@ use Rattle.nb_graph.proofs.Reaches.{Within, has_head, has_tail, any_has, has_any
 use Rattle.nb_wave.specs.Rules.{first_where as first_by}
 use Rattle.nb_history.specs.Lists.{first_where}
 
-pub has_range : (a n u : ℕ) → a ≤ u → u < a + n → has (range_with_len a n) u ≡ true
-has_range a zero u h k = absurd (omega (arith, h, k))
-has_range a (suc n) u h k =
-    elim (cases_eq a u) [
-      | inl same ↦ has_head a (range_with_len (a + 1) n) u same
-      | inr other ↦ has_tail a (range_with_len (a + 1) n) u (has_range (a + 1) n u (omega (arith, other, h)) (omega (arith, k)))
-    ]
-
 pub both_ways : (a b : Bool) → (a ≡ true → b ≡ true) → (b ≡ true → a ≡ true) → a ≡ b
 both_ways true b f g = sym (f refl)
 both_ways false true f g = g refl

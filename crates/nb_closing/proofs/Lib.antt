@@ -1,9 +1,9 @@
-mod Duplicates
-mod SameFootings
-mod Agreeing
-mod ToldRows
-mod ToldAfter
-mod StartsKept
-mod Planned
-mod Sound
-mod Putting
+pub mod Duplicates
+pub mod SameFootings
+pub mod Agreeing
+pub mod ToldRows
+pub mod ToldAfter
+pub mod StartsKept
+pub mod Planned
+pub mod Sound
+pub mod Putting

@@ -26,7 +26,7 @@ use Rattle.nb_closing.specs.declared.site.Moment.{Moment}
 use Rattle.nb_closing.specs.Sites.{site_of, site_in, kept_of, IsScene}
 use Rattle.nb_closing.specs.Told.{footing_at, IsTold, AreTold}
 use Rattle.nb_closing.proofs.Duplicates.{duplicate_direct, alone_open, nothing_inputs, nothing_direct}
-use Rattle.nb_closing.proofs.ToldRows.{sites_of, IsToldOf, Told}
+use Rattle.nb_closing.proofs.ToldRows.{none_there, sites_of, IsToldOf, Told}
 
 -- a number has a row, or none
 number_cases : (v n : ℕ) → ((1 ≤ v) × (v ≤ n)) ⊎ ((v ≡ 0) ⊎ (n < v))
@@ -75,11 +75,6 @@ module _ (s : Sheet) (xs : List (Option Start)) (m : Moment) (rows : List Row) (
         | inr past ↦ outside past (slice_get rows v) refl ∙ sym (nothing_direct s v (nth_past s.rows v past))
       ]
     where
-      none_there : (ys : List Row) (i : ℕ) → i < length ys → slice_get ys i ≡ None → ⊥
-      none_there [] i h k = absurd (omega (arith, h))
-      none_there (x ∷ ys) zero h k = cc
-      none_there (x ∷ ys) (suc i) h k = none_there ys i (omega (arith, h)) k
-
       inside : (1 ≤ v) × (v ≤ length s.rows) → (o : Option Row) → slice_get rows v ≡ o → needs_of rows v ≡ direct s v
       inside is (Some row) e = ap (option_by [] (λ (x : Row). x.needs)) e ∙ (told.told v row is.0 is.1 e).needs
       inside is None e = absurd (none_there rows v (omega (arith, is.1, few, told.size)) e)

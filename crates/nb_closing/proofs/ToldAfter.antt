@@ -1,5 +1,5 @@
 -- A wave that is told of a reading is told of the reading after a step, once it has made the step.
-use Rattle.std.proofs.Common.{ℕ, zero, suc, ◌+◌, ◌≡◌, ◌≢◌, ◌≤◌, ◌<◌, refl, sym, ◌∙◌, ap, subst, Bool, true, false, cond, not, ◌&&◌, eqb, List, [], ◌∷◌, length, map, arith, Option, Some, None, inl, inr}
+use Rattle.std.proofs.Common.{ℕ, zero, suc, ◌+◌, ◌≡◌, ◌≢◌, ◌≤◌, ◌<◌, refl, sym, ◌∙◌, ap, subst, Bool, true, false, cond, not, ◌&&◌, eqb, List, [], ◌∷◌, length, map, get_or, arith, Option, Some, None, inl, inr}
 use Rattle.std.specs.Prelude.{slice_get, nat_le, option_map, IfSome}
 use Rattle.std.proofs.lemmas.Bool.{cases_Bool, cases_eq, ne_eqb, eq-eqb}
 use Rattle.std.proofs.lemmas.Option.{slice_get_within, slice_get-get_or}
@@ -157,17 +157,9 @@ module _ (r : Reading) (rows : List Row) (told : Told r rows) (v n size : ℕ) (
         shaped = length_put r.starts v x ∙ told.shaped;
         each = λ w new at.
             let inside : w < length rows = omega (arith, slice_get_within (stepped f v n rows) w new at, length_stepped f change.mild v n rows) in
-            row_then w new at (Row_at w inside);
+            row_then w new at (get_or rows w new, slice_get-get_or rows w new inside);
       }
     where
-      Row_at : (w : ℕ) → w < length rows → (row : Row) × (slice_get rows w ≡ Some row)
-      Row_at w h = got rows w h
-        where
-          got : (xs : List Row) (i : ℕ) → i < length xs → (row : Row) × (slice_get xs i ≡ Some row)
-          got [] i h = absurd (omega (arith, h))
-          got (y ∷ xs) zero h = (y, refl)
-          got (y ∷ xs) (suc i) h = got xs i (omega (arith, h))
-
       row_then : (w : ℕ) (new : Row) → slice_get (stepped f v n rows) w ≡ Some new → (row : Row) × (slice_get rows w ≡ Some row) → IsToldOf (with_one r v x size) w new
       row_then w new at old =
           elim (cases_eq v w) [

@@ -27,10 +27,6 @@ use Rattle.nb_closing.specs.Ties.{Ties}
 abbrev pub mark_of : Ties → ℕ
 mark_of t = cond t.is_circular 2 (cond t.is_duplicate 1 0)
 
--- a part of the site of each variable that is needed directly, and none for a circular one
-abbrev pub parts_of : (Site → ℕ) → List Site → Ties → List ℕ
-parts_of part sites t = cond t.is_circular [] (map (λ u. part (site_in sites u)) t.direct)
-
 -- what v rests on where the variables have these sites
 abbrev pub footing_at : Sheet → (ℕ → Site) → ℕ → Footing
 footing_at s site v =
