@@ -17,12 +17,12 @@ pub any_same : (p q : ℕ → Bool) (xs ys : List ℕ) → ((u : ℕ) → p u �
 any_same p q xs ys same among =
     both_ways (list_any p xs) (list_any q ys)
     (λ h.
-        let t : (w : ℕ) × (has xs w ≡ true) × (p w ≡ true) = any_has p xs h in
-        let passes : q t.0 ≡ true = sym (same t.0) ∙ t.2 in
-        has_any q ys t.0 (sym (among t.0 passes) ∙ t.1) passes)
+    let t : (w : ℕ) × (has xs w ≡ true) × (p w ≡ true) = any_has p xs h in
+    let passes : q t.0 ≡ true = sym (same t.0) ∙ t.2 in
+    has_any q ys t.0 (sym (among t.0 passes) ∙ t.1) passes)
     (λ h.
-        let t : (w : ℕ) × (has ys w ≡ true) × (q w ≡ true) = any_has q ys h in
-        has_any p xs t.0 (among t.0 t.2 ∙ t.1) (same t.0 ∙ t.2))
+    let t : (w : ℕ) × (has ys w ≡ true) × (q w ≡ true) = any_has q ys h in
+    has_any p xs t.0 (among t.0 t.2 ∙ t.1) (same t.0 ∙ t.2))
 
 -- what is needed among these numbers is so among those, where both have all direct needs
 pub needed_same : (direct : ℕ → List ℕ) (xs ys : List ℕ) → Within direct xs → Within direct ys → (v u : ℕ) → has (all_needed direct xs v) u ≡ has (all_needed direct ys v) u

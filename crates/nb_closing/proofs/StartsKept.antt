@@ -94,7 +94,7 @@ starts_at steps rows new place v runs once =
       row = t.0;
       at = t.1;
       kept = kept_stays steps (stepped begun v place rows) new (place + 1) v runs.1 (wanted_stepped begun mild_begun v place rows v ∙ w) (not_later v steps once)
-      ∙ ap (from_option None (λ (row : Row). row.kept)) (get_stepped_same begun mild_begun v place rows t.0 t.1);
+          ∙ ap (from_option None (λ (row : Row). row.kept)) (get_stepped_same begun mild_begun v place rows t.0 t.1);
       low = l.low;
       inside = l.inside;
     }
