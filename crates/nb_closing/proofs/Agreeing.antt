@@ -1,9 +1,8 @@
 -- Tests that agree find the same in lists of numbers, also where one list goes on past all that pass.
-use Rattle.std.proofs.Common.{ℕ, zero, suc, ◌+◌, ◌-◌, ◌≡◌, ◌≤◌, ◌<◌, refl, sym, ◌∙◌, ap, Bool, true, false, cond, List, [], ◌∷◌, length, arith, Option, Some, None, inl, inr}
+use Rattle.std.proofs.Common.{ℕ, zero, suc, ◌+◌, ◌≡◌, ◌≤◌, refl, sym, ◌∙◌, ap, Bool, true, false, cond, List, arith, Some, None}
 use Rattle.std.specs.List.{list_any, range_with_len}
-use Rattle.std.proofs.lemmas.Bool.{cases_eq, false≢true}
-use Rattle.nb_graph.specs.Needs.{has, Needs, all_needed}
-use Rattle.nb_graph.proofs.Reaches.{Within, has_head, has_tail, any_has, has_any, needed_sound, needed_complete}
+use Rattle.nb_graph.specs.Needs.{has, all_needed}
+use Rattle.nb_graph.proofs.Reaches.{Within, any_has, has_any, needed_sound, needed_complete}
 use Rattle.nb_wave.specs.Rules.{first_where as first_by}
 use Rattle.nb_history.specs.Lists.{first_where}
 

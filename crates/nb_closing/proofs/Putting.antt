@@ -1,22 +1,19 @@
 -- One more variable is told.
-use Rattle.std.proofs.Common.{ℕ, zero, suc, ◌+◌, ◌-◌, ◌≡◌, ◌≢◌, ◌≤◌, ◌<◌, ◌⊎◌, refl, sym, ◌∙◌, ap, subst, Bool, true, false, cond, not, ◌&&◌, eqb, List, [], ◌∷◌, length, map, get_or, arith, Option, Some, None, inl, inr}
+use Rattle.std.proofs.Common.{ℕ, zero, suc, ◌+◌, ◌≡◌, ◌≢◌, ◌≤◌, ◌<◌, refl, sym, ◌∙◌, ap, subst, Bool, true, false, cond, not, ◌&&◌, eqb, List, [], ◌∷◌, length, map, get_or, arith, Option, Some, None, inl, inr}
 use Rattle.std.specs.Prelude.{slice_get, option_map, IfSome, replicate}
-use Rattle.std.specs.List.{range_with_len}
-use Rattle.std.proofs.lemmas.Bool.{cases_Bool, cases_lt, cases_eq, false≢true, eqb-true, eq-eqb}
+use Rattle.std.proofs.lemmas.Bool.{cases_Bool, cases_eq, false≢true}
 use Rattle.std.proofs.lemmas.List.{length-map, length-replicate}
 use Rattle.std.proofs.lemmas.List.FromFn.{length-map-range_with_len, get_or-map-range_with_len}
 use Rattle.nb_graph.specs.Needs.{has}
-use Rattle.nb_sheet.specs.Lists.{numbers}
 use Rattle.nb_sheet.specs.Sheet.{Sheet}
 use Rattle.nb_resolve.specs.Names.{direct, duplicate}
 use Rattle.nb_wave.specs.declared.footing.Footing.{Footing as Numbered}
 use Rattle.nb_wave.specs.declared.row.Row.{Row}
 use Rattle.nb_wave.specs.Steps.{changed}
-use Rattle.nb_wave.specs.Wave.{unput, no_rows, put_row, kept_row, IsAsMany, IsNumber}
+use Rattle.nb_wave.specs.Wave.{unput, no_rows, put_row, IsAsMany, IsNumber}
 use Rattle.nb_wave.proofs.Stepped.{get_changed_same, get_changed_other, length_changed}
 use Rattle.nb_history.specs.Needs.{circular, is_used}
 use Rattle.nb_history.specs.Reading.{Start, Footing}
-use Rattle.nb_history.specs.Rules.{input_code}
 use Rattle.nb_history.proofs.Direct.{direct_within}
 use Rattle.nb_history.proofs.Closing.{range_has}
 use Rattle.nb_runs.specs.Footings.{footing_of, IsMarked}

@@ -1,10 +1,10 @@
 -- Rows that are told of all variables of a sheet are sound, and told of each reading of the scene.
-use Rattle.std.proofs.Common.{ℕ, zero, suc, ◌+◌, ◌≡◌, ◌≢◌, ◌≤◌, ◌<◌, ◌⊎◌, refl, sym, ◌∙◌, ap, subst, Bool, true, false, cond, not, ◌&&◌, eqb, List, [], ◌∷◌, length, map, arith, Option, Some, None, inl, inr}
-use Rattle.std.specs.Prelude.{slice_get, option_map, IfSome}
+use Rattle.std.proofs.Common.{ℕ, zero, suc, ◌+◌, ◌≡◌, ◌≢◌, ◌≤◌, ◌<◌, ◌⊎◌, refl, sym, ◌∙◌, ap, subst, Bool, true, false, cond, eqb, List, [], length, map, arith, Option, Some, None, inl, inr}
+use Rattle.std.specs.Prelude.{slice_get}
 use Rattle.std.proofs.lemmas.Bool.{cases_Bool, cases_lt, false≢true, false_from_ne_true, eqb-true, eq-eqb}
-use Rattle.std.proofs.lemmas.Option.{slice_get_within, slice_get_past}
+use Rattle.std.proofs.lemmas.Option.{slice_get_past}
 use mathlib.Core.Path.{fun_ext}
-use Rattle.nb_graph.specs.Needs.{has, Needs}
+use Rattle.nb_graph.specs.Needs.{Needs}
 use Rattle.nb_graph.proofs.Reaches.{needed_complete}
 use Rattle.nb_sheet.specs.Lists.{nth, numbers, from_option, option_then}
 use Rattle.nb_sheet.specs.Sheet.{Sheet}
@@ -14,12 +14,12 @@ use Rattle.nb_wave.specs.declared.footing.Footing.{Footing as Numbered}
 use Rattle.nb_wave.specs.declared.row.Row.{Row}
 use Rattle.nb_wave.specs.Rules.{from_option as option_by, needs_of, IsSound}
 use Rattle.nb_wave.specs.Wave.{unput}
-use Rattle.nb_history.specs.Needs.{circular, is_used}
+use Rattle.nb_history.specs.Needs.{circular}
 use Rattle.nb_history.specs.Reading.{Reading, Start, Footing, start_of}
 use Rattle.nb_history.specs.Rules.{place_of, input_code, wanted}
 use Rattle.nb_history.proofs.Direct.{direct_within}
 use Rattle.nb_history.proofs.Closing.{Shaped, wanted_has, range_has}
-use Rattle.nb_runs.specs.Footings.{footing_of, IsMarked}
+use Rattle.nb_runs.specs.Footings.{footing_of}
 use Rattle.nb_runs.specs.Starts.{start_in}
 use Rattle.nb_closing.specs.declared.site.Site.{Site}
 use Rattle.nb_closing.specs.declared.site.Moment.{Moment}

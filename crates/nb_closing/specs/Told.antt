@@ -1,5 +1,5 @@
 -- What a wave is told of the variables of a sheet.
-use Rattle.std.specs.Prelude.{ℕ, ⊤, ◌+◌, ◌≡◌, ◌≤◌, ◌<◌, ◌⊎◌, Bool, cond, not, ◌&&◌, List, [], length, map, Option, None, Some, IfSome, IsSome, option_map, slice_get}
+use Rattle.std.specs.Prelude.{ℕ, ⊤, ◌≡◌, ◌≤◌, ◌<◌, ◌⊎◌, Bool, cond, not, ◌&&◌, List, [], length, map, Option, None, Some, IfSome, IsSome, option_map, slice_get}
 use Rattle.nb_sheet.specs.Sheet.{Sheet}
 use Rattle.nb_resolve.specs.Names.{inputs, direct, duplicate}
 use Rattle.nb_wave.specs.declared.footing.Footing.{Footing as Numbered}

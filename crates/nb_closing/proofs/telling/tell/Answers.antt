@@ -1,7 +1,5 @@
-use Rattle.std.proofs.Common.{ℕ, ◌+◌, ◌≡◌, ◌<◌, ◌∙◌, refl, sym, ap, List, length, arith}
-use Rattle.std.proofs.lemmas.Option.{get_or_from_slice_get}
+use Rattle.std.proofs.Common.{◌≡◌, ◌<◌, refl, ap, List, length, arith}
 use Rattle.nb_sheet.specs.declared.row.VarRow.{VarRow}
-use Rattle.nb_closing.specs.Ties.{ties_of}
 use Rattle.nb_closing.proofs.Putting.{told_none, ties_length, ties_at}
 use Rattle.nb_closing.proofs.telling.tell.Goals as goal
 
