@@ -1,10 +1,9 @@
-pub mod Agreeing
 pub mod Duplicates
-pub mod Planned
 pub mod SameFootings
-pub mod Sound
-pub mod StartsKept
-pub mod Tables
-pub mod ToldAfter
+pub mod Agreeing
 pub mod ToldRows
-pub mod Used
+pub mod ToldAfter
+pub mod StartsKept
+pub mod Planned
+pub mod Sound
+pub mod Putting

@@ -1,22 +1,19 @@
 -- One more variable is told.
-use Rattle.std.proofs.Common.{ℕ, zero, suc, ◌+◌, ◌-◌, ◌≡◌, ◌≢◌, ◌≤◌, ◌<◌, ◌⊎◌, refl, sym, ◌∙◌, ap, subst, Bool, true, false, cond, not, ◌&&◌, eqb, List, [], ◌∷◌, length, map, arith, Option, Some, None, inl, inr}
+use Rattle.std.proofs.Common.{ℕ, zero, suc, ◌+◌, ◌≡◌, ◌≢◌, ◌≤◌, ◌<◌, refl, sym, ◌∙◌, ap, subst, Bool, true, false, cond, not, ◌&&◌, eqb, List, [], ◌∷◌, length, map, get_or, arith, Option, Some, None, inl, inr}
 use Rattle.std.specs.Prelude.{slice_get, option_map, IfSome, replicate}
-use Rattle.std.specs.List.{range_with_len}
-use Rattle.std.proofs.lemmas.Bool.{cases_Bool, cases_lt, cases_eq, false≢true, eqb-true, eq-eqb}
+use Rattle.std.proofs.lemmas.Bool.{cases_Bool, cases_eq, false≢true}
 use Rattle.std.proofs.lemmas.List.{length-map, length-replicate}
-use Rattle.std.proofs.lemmas.Option.{slice_get_within}
+use Rattle.std.proofs.lemmas.List.FromFn.{length-map-range_with_len, get_or-map-range_with_len}
 use Rattle.nb_graph.specs.Needs.{has}
-use Rattle.nb_sheet.specs.Lists.{numbers}
 use Rattle.nb_sheet.specs.Sheet.{Sheet}
 use Rattle.nb_resolve.specs.Names.{direct, duplicate}
 use Rattle.nb_wave.specs.declared.footing.Footing.{Footing as Numbered}
 use Rattle.nb_wave.specs.declared.row.Row.{Row}
 use Rattle.nb_wave.specs.Steps.{changed}
-use Rattle.nb_wave.specs.Wave.{unput, no_rows, put_row, kept_row, IsAsMany, IsNumber}
+use Rattle.nb_wave.specs.Wave.{unput, no_rows, put_row, IsAsMany, IsNumber}
 use Rattle.nb_wave.proofs.Stepped.{get_changed_same, get_changed_other, length_changed}
 use Rattle.nb_history.specs.Needs.{circular, is_used}
 use Rattle.nb_history.specs.Reading.{Start, Footing}
-use Rattle.nb_history.specs.Rules.{input_code}
 use Rattle.nb_history.proofs.Direct.{direct_within}
 use Rattle.nb_history.proofs.Closing.{range_has}
 use Rattle.nb_runs.specs.Footings.{footing_of, IsMarked}
@@ -27,27 +24,16 @@ use Rattle.nb_closing.specs.Sites.{site_in, kept_of}
 use Rattle.nb_closing.specs.Ties.{Ties, ties_of, all_ties}
 use Rattle.nb_closing.specs.Told.{mark_of, footing_at, IsTold, AreTold, keeping, IsKept}
 use Rattle.nb_closing.proofs.Duplicates.{duplicate_open}
+use Rattle.nb_closing.proofs.ToldRows.{none_there}
 
 -- ---- ties, by number
 
-get_range : {A : Type 0} (f : ℕ → A) (a n k : ℕ) → k < n → slice_get (map f (range_with_len a n)) k ≡ Some (f (a + k))
-get_range f a zero k h = absurd (omega (arith, h))
-get_range f a (suc n) zero h = let e : a ≡ a + 0 = omega arith in ap (λ (x : ℕ). Some (f x)) e
-get_range f a (suc n) (suc k) h =
-    let e : a + 1 + k ≡ a + suc k = omega arith in
-    get_range f (a + 1) n k (omega (arith, h)) ∙ ap (λ (x : ℕ). Some (f x)) e
-
-length_range : (a n : ℕ) → length (range_with_len a n) ≡ n
-length_range a zero = refl
-length_range a (suc n) = ap suc (length_range (a + 1) n)
-
 pub ties_length : (s : Sheet) (ties : List Ties) → ties ≡ all_ties s → length ties ≡ length s.rows
-ties_length s ties e = ap (λ (l : List Ties). length l) e ∙ length-map (numbers s.rows) (ties_of s) ∙ length_range 1 (length s.rows)
+ties_length s ties e = ap (λ (l : List Ties). length l) e ∙ length-map-range_with_len (ties_of s) 1 (length s.rows)
 
-pub ties_at : (s : Sheet) (ties : List Ties) (k : ℕ) → ties ≡ all_ties s → k < length s.rows → slice_get ties k ≡ Some (ties_of s (k + 1))
-ties_at s ties k e h =
-    let one : 1 + k ≡ k + 1 = omega arith in
-    ap (λ (l : List Ties). slice_get l k) e ∙ get_range (ties_of s) 1 (length s.rows) k h ∙ ap (λ (x : ℕ). Some (ties_of s x)) one
+pub ties_at : (s : Sheet) (ties : List Ties) (k : ℕ) (t : Ties) → ties ≡ all_ties s → k < length s.rows → t ≡ get_or ties k t → t ≡ ties_of s (k + 1)
+ties_at s ties k t e h read =
+    read ∙ ap (λ (l : List Ties). get_or l k t) e ∙ get_or-map-range_with_len (ties_of s) 1 (length s.rows) k (k + 1) t h (omega arith)
 
 -- ---- what a wave takes
 
@@ -177,11 +163,6 @@ module _ (s : Sheet) (xs : List (Option Start)) (m : Moment) (k : ℕ) (inside :
   old_there : slice_get old (k + 1) ≡ Some unput
   old_there = go (slice_get old (k + 1)) refl
     where
-      none_there : (ys : List Row) (i : ℕ) → i < length ys → slice_get ys i ≡ None → ⊥
-      none_there [] i h e = absurd (omega (arith, h))
-      none_there (x ∷ ys) zero h e = cc
-      none_there (x ∷ ys) (suc i) h e = none_there ys i (omega (arith, h)) e
-
       go : (o : Option Row) → slice_get old (k + 1) ≡ o → slice_get old (k + 1) ≡ Some unput
       go None e = absurd (none_there old (k + 1) (omega (arith, inside, told.size)) e)
       go (Some row) e = e ∙ ap (λ (x : Row). Some x) (told.rest (k + 1) row (inr (omega arith)) e)

@@ -6,7 +6,7 @@ ghost use Rattle.nb_runs.specs.Footings.{footing_of, IsMarked};
 ghost use Rattle.nb_runs.specs.Starts.{start_in};
 ghost use Rattle.nb_wave.specs.Wave.{no_rows, IsNumber};
 ghost use Rattle.nb_closing.specs.Ties.{ties_of, all_ties};
-ghost use Rattle.nb_closing.specs.Sites.{idle_site, site_in, kept_of};
+ghost use Rattle.nb_closing.specs.Sites.{site_in, kept_of};
 ghost use Rattle.nb_closing.specs.Told.{mark_of, footing_at, AreTold, IsKept};
 
 use crate::site::{Moment, Site};

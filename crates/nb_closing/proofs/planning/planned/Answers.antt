@@ -1,7 +1,6 @@
-use Rattle.std.proofs.Common.{ℕ, ◌∙◌, sym, ap, subst, List, map}
+use Rattle.std.proofs.Common.{◌∙◌, sym, ap, subst, List, map}
 use Rattle.std.specs.Prelude.{slice_get}
 use Rattle.nb_wave.specs.declared.step.Step.{Step as WaveStep}
-use Rattle.nb_closing.specs.declared.step.Step.{Step}
 use Rattle.nb_closing.specs.Plan.{Plans}
 use Rattle.nb_closing.specs.Told.{step_in}
 use Rattle.nb_closing.proofs.Sound.{sound_told, told_scene}

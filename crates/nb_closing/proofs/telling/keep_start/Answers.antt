@@ -1,5 +1,5 @@
 use Rattle.std.proofs.Common.{◌∙◌, ap, refl, sym, subst, Some}
-use Rattle.nb_history.specs.Reading.{Footing, Start}
+use Rattle.nb_history.specs.Reading.{Footing}
 use Rattle.nb_runs.specs.Footings.{footing_of, IsMarked}
 use Rattle.nb_runs.specs.Starts.{start_in}
 use Rattle.nb_closing.specs.Sites.{kept_of}

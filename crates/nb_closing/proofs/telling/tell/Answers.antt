@@ -1,7 +1,5 @@
-use Rattle.std.proofs.Common.{ℕ, ◌+◌, ◌≡◌, ◌<◌, ◌∙◌, refl, sym, ap, List, length, arith}
-use Rattle.std.proofs.lemmas.Option.{get_or_from_slice_get}
+use Rattle.std.proofs.Common.{◌≡◌, ◌<◌, refl, ap, List, length, arith}
 use Rattle.nb_sheet.specs.declared.row.VarRow.{VarRow}
-use Rattle.nb_closing.specs.Ties.{ties_of}
 use Rattle.nb_closing.proofs.Putting.{told_none, ties_length, ties_at}
 use Rattle.nb_closing.proofs.telling.tell.Goals as goal
 
@@ -19,5 +17,4 @@ tell_one-requires-clause-ties c =
     let s = c.args.sheet.now.sheet in
     let rows_are : length c.rows-n.result.now ≡ length s.rows = ap (λ (l : List VarRow). length l) c.rows-n.ensures.value in
     let inside : c.loop-k.k < length s.rows = omega (arith, rows_are) in
-    c.index.ensures
-    ∙ get_or_from_slice_get c.args.ties.now.items c.loop-k.k (ties_of s (c.loop-k.k + 1)) c.index.result.now (ties_at s c.args.ties.now.items c.loop-k.k c.requires.ties inside)
+    ties_at s c.args.ties.now.items c.loop-k.k c.index.result.now c.requires.ties inside c.index.ensures
