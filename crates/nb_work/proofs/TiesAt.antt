@@ -3,6 +3,7 @@ use Rattle.std.proofs.Common.{inl, inr, ℕ, zero, suc, ◌≡◌, ◌+◌, ◌<
 use Rattle.std.specs.Prelude.{slice_get}
 use Rattle.std.specs.List.{filter, filter_map, list_any, range_with_len}
 use Rattle.std.proofs.lemmas.Bool.{cases_lt}
+use Rattle.std.proofs.lemmas.Option.{none-some}
 use Rattle.nb_graph.specs.Needs.{has, grown, rounds}
 use Rattle.nb_sheet.specs.Lists.{nth, numbers, from_option}
 use Rattle.nb_sheet.specs.Sheet.{Sheet}
@@ -30,7 +31,7 @@ not_circular s v e =
 
 -- ---- a number that names no variable
 
-no_row : (s : Sheet) (v : ℕ) → nth s.rows v ≡ None → no_ties ≡ ties_of s v
+pub no_row : (s : Sheet) (v : ℕ) → nth s.rows v ≡ None → no_ties ≡ ties_of s v
 no_row s v e =
     let none : circular s v ≡ false = not_circular s v (ap (λ (o : Option VarRow). filter_map variable_of (from_option [] (inputs_of_row s) o)) e) in
     sym (λ j. record {
@@ -77,3 +78,18 @@ ties_in_all s (suc i) =
 -- the ties that were read, or none
 pub ties_read : (s : Sheet) (ties : List Ties) (v : ℕ) → ties ≡ all_ties s → ties_in ties v ≡ ties_of s v
 ties_read s ties v e = ap (λ (l : List Ties). ties_in l v) e ∙ ties_in_all s v
+
+pub tied_read : (s : Sheet) (ties : List Ties) (v : ℕ) (t : Ties) → ties ≡ all_ties s → Some t ≡ nth ties v → t ≡ ties_of s v
+tied_read s ties v t e there = ap or_none there ∙ ties_read s ties v e
+
+-- where there are none, there is no row
+row_there : (s : Sheet) (v : ℕ) → nth (all_ties s) v ≡ None → nth s.rows v ≡ None
+row_there s zero e = refl
+row_there s (suc i) e =
+    elim (cases_lt i (length s.rows)) [
+      | inl inside ↦ absurd (none-some (ties_of s (1 + i)) (sym e ∙ slice_map (ties_of s) 1 (length s.rows) i inside))
+      | inr past ↦ outside s.rows i past
+    ]
+
+pub untied_row : (s : Sheet) (ties : List Ties) (v : ℕ) → ties ≡ all_ties s → nth ties v ≡ None → nth s.rows v ≡ None
+untied_row s ties v e none = row_there s v (ap (λ (l : List Ties). nth l v) (sym e) ∙ none)

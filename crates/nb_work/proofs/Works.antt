@@ -1,6 +1,7 @@
 -- What was done of a ready variable's work gives its next entry.
-use Rattle.std.proofs.Common.{ℕ, ◌≡◌, ◌+◌, refl, sym, ◌∙◌, ap, Bool, true, false, cond, not, ◌&&◌, List, [], ◌∷◌, length, Option, Some, None, is_some}
+use Rattle.std.proofs.Common.{ℕ, ◌≡◌, ◌+◌, refl, sym, ◌∙◌, ap, Bool, true, false, cond, not, ◌&&◌, List, [], ◌∷◌, map, length, Option, Some, None, is_some}
 use Rattle.std.specs.Prelude.{◌==◌}
+use Rattle.std.proofs.lemmas.Bool.{and_right}
 use Rattle.nb_value.specs.declared.value.Value.{Value}
 use Rattle.nb_value.specs.declared.value.Value.TheVariants.{Null}
 use Rattle.nb_value.specs.declared.outcome.CellError.{CellError}
@@ -9,23 +10,28 @@ use Rattle.nb_value.specs.declared.outcome.Outcome.TheVariants.{Value as Shows, 
 use Rattle.nb_eval.specs.Evaluation.{Evaluated, segment_end, run_end, last_of}
 use Rattle.nb_eval.specs.Work.{IsOf}
 use Rattle.nb_eval.specs.declared.given.RunEnd.{RunEnd}
+use Rattle.nb_eval.specs.declared.given.Ending.{Ending}
+use Rattle.nb_eval.specs.declared.given.Ending.TheVariants.{Paused}
 use Rattle.nb_eval.specs.declared.given.Segment.{Segment}
 use Rattle.nb_eval.specs.declared.finished.Finished.{Finished}
 use Rattle.nb_eval.specs.declared.work.Work.TheVariants.{Direct}
 use Rattle.nb_eval.specs.declared.work.WorkDone.TheVariants.{Direct as DirectDone, Ran}
 use Rattle.nb_log.specs.declared.entry.Entry.{Entry}
-use Rattle.nb_log.specs.declared.entry.Entry.TheVariants.{Rejected}
+use Rattle.nb_log.specs.declared.entry.Entry.TheVariants.{Fulfilled, Rejected}
 use Rattle.nb_sheet.specs.declared.row.BodyOf.{BodyOf}
 use Rattle.nb_sheet.specs.declared.row.BodyOf.TheVariants.{Cell as CellBody, Import as ImportBody}
-use Rattle.nb_sheet.specs.Lists.{from_option}
+use Rattle.nb_sheet.specs.declared.row.VarRow.{VarRow}
+use Rattle.nb_sheet.specs.Lists.{nth, from_option, option_then, or_else}
 use Rattle.nb_sheet.specs.Sheet.{Sheet}
 use Rattle.nb_history.specs.Reading.{Reading, Start, shown}
-use Rattle.nb_history.specs.Rules.{deciding_error, body_of, run_body, evaluation, evaluated, entry_of, generates, answers_of, pulls_of, next, last_or_null}
+use Rattle.nb_history.specs.Rules.{given, first_error, name_of, deciding_error, body_of, run_body, evaluation, evaluated, entry_of, generates, answers_of, pulls_of, next, last_or_null}
 use Rattle.nb_history.specs.Log.{cleanups_now, is_done}
 use Rattle.nb_runs.specs.Starts.{generates_in}
 use Rattle.nb_work.specs.Over.{IsOver}
-use Rattle.nb_work.specs.Tied.{over, pulls_in}
+use Rattle.nb_closing.specs.Ties.{Ties}
+use Rattle.nb_work.specs.Tied.{over, pulls_in, marked_by}
 use Rattle.nb_work.specs.Work.{work_of, body_work, values_of}
+use Rattle.nb_work.proofs.TiesAt.{no_row}
 use Rattle.nb_work.specs.declared.notice.Notice.{Notice}
 use Rattle.nb_work.specs.declared.notice.Notice.TheVariants as notice
 use Rattle.nb_work.specs.Notices.{shown_entry, notice_entry, cleanups_of, EndsBy, EndsRight, IsEnd, IsNotice}
@@ -137,3 +143,39 @@ pub last_value : (xs : List Value) → from_option Null (λ (x : Value). x) (las
 last_value [] = refl
 last_value (x ∷ []) = refl
 last_value (x ∷ y ∷ more) = last_value (y ∷ more)
+
+-- ---- what an evaluation's end gives
+
+module _ (end : RunEnd) (e : Evaluated) (k : end ≡ run_end e) (generator first : Bool) where
+  pub end_is : (z : Ending) → end.ending ≡ z → e.ending ≡ z
+  end_is z is = sym (ap (λ (x : RunEnd). x.ending) k) ∙ is
+
+  pub end_cleanups : end.cleanups ≡ e.cleanups
+  end_cleanups = ap (λ (x : RunEnd). x.cleanups) k
+
+  pub end_entry : (t v : ℕ) (z : Ending) → end.ending ≡ z → entry_of t v generator first e z ≡ entry_of t v generator first e e.ending
+  end_entry t v z is = sym (ap (λ (x : Ending). entry_of t v generator first e x) (end_is z is))
+
+  pub paused_entry : (t v : ℕ) (x : Value) → end.ending ≡ Paused → x ≡ from_option Null (λ (y : Value). y) end.last → Fulfilled v x ≡ entry_of t v generator first e e.ending
+  paused_entry t v x is last =
+      ap (λ (y : Value). Fulfilled v y) (last ∙ ap (λ (y : RunEnd). from_option Null (λ (y : Value). y) y.last) k ∙ last_value e.yields)
+      ∙ end_entry t v Paused is
+
+  pub paused_end : (x : Value) → end.ending ≡ Paused → x ≡ from_option Null (λ (y : Value). y) end.last → IsEnd generator first e (notice.Shows (Shows x) end.cleanups false)
+  paused_end x is last =
+      record {
+        entry = λ t v. sym (paused_entry t v x is last);
+        cleanups = end_cleanups;
+        ends = sym (ap (λ (z : Ending). generator && is_done z) (end_is Paused is) ∙ and_right generator false refl);
+      }
+
+-- ---- work, by a sheet and starts
+
+pub work_over : (r : Reading) (s : Sheet) (starts : List (Option Start)) (v : ℕ) → IsOver r s starts → work_of (over s starts) v ≡ work_of r v
+work_over r s starts v h = sym (λ j. work_of (over (h.sheet j) (h.starts j)) v)
+
+-- a number that names no variable
+pub no_work : (s : Sheet) (starts : List (Option Start)) (v : ℕ) → nth s.rows v ≡ None → Direct (Shows Null) ≡ work_of (over s starts) v
+no_work s starts v none =
+    ap (λ (t : Ties). from_option (Direct (Shows Null)) (λ e. Direct (Fails e)) (or_else (marked_by t.is_duplicate t.is_circular (name_of s v)) (first_error (map (given s (shown (over s starts))) t.inputs)))) (no_row s v none)
+    ∙ sym (ap (λ (o : Option VarRow). from_option (body_work (over s starts) v (option_then o (λ (row : VarRow). row.body))) (λ e. Direct (Fails e)) (deciding_error (over s starts) (shown (over s starts)) v)) none)
