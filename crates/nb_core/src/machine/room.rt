@@ -12,5 +12,6 @@ pub fn reserve(log: &mut Log, tickets: &mut Vec<Ticket>, n: usize) -> Result<(),
     ensures room { OnOk result (n ≤ room_of log.new.room (vec_capacity tickets.new) (vec_len tickets.new)) }
 {
     log.reserve(n)?;
-    tickets.reserve(n)
+    tickets.reserve(n)?;
+    Ok(())
 }

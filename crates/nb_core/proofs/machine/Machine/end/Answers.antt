@@ -5,7 +5,7 @@ use Rattle.nb_runs.specs.Starts.{ended_by}
 use Rattle.nb_core.specs.Stands.{Kept, leaves}
 use Rattle.nb_core.proofs.Plus.{stands_plus}
 use Rattle.nb_core.proofs.Steps.{changed_back, step_ended}
-use Rattle.nb_core.proofs.machine.notices.Machine.end.Goals as goal
+use Rattle.nb_core.proofs.machine.Machine.end.Goals as goal
 
 pub invariant_of-self : goal.invariant_of-self
 invariant_of-self c =

@@ -2,7 +2,7 @@ use Rattle.std.proofs.Common.{◌≡◌, ◌≤◌, length}
 use Rattle.std.specs.Vec.Iter.{into_iter_items, into_iter_len}
 use Rattle.nb_history.specs.History.{standing, plus_all}
 use Rattle.nb_closing.specs.Plan.{Plans, planned}
-use Rattle.nb_core.proofs.machine.closing.Machine.commit.Given as goal
+use Rattle.nb_core.proofs.machine.Machine.commit.Given as goal
 
 abbrev pub invariant-loop-step : goal.invariant-loop-step
 invariant-loop-step l = record {

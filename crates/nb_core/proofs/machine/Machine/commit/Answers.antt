@@ -2,7 +2,7 @@ use Rattle.std.proofs.Common.{◌≡◌, ◌∙◌, ap, arith, length, List}
 use Rattle.std.specs.Vec.Iter.{into_iter_items}
 use Rattle.nb_closing.specs.declared.step.Step.{Step}
 use Rattle.nb_core.proofs.Plans.{plan_goes_on}
-use Rattle.nb_core.proofs.machine.closing.Machine.commit.Goals as goal
+use Rattle.nb_core.proofs.machine.Machine.commit.Goals as goal
 
 pub loop-step-preserved : goal.loop-step-preserved
 loop-step-preserved c =

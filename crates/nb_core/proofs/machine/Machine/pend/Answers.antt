@@ -8,7 +8,7 @@ use Rattle.nb_runs.specs.Footings.{footing_of}
 use Rattle.nb_core.specs.Stands.{Kept, leaves}
 use Rattle.nb_core.proofs.Plus.{stands_plus}
 use Rattle.nb_core.proofs.Steps.{exchanged, step_pending}
-use Rattle.nb_core.proofs.machine.closing.Machine.pend.Goals as goal
+use Rattle.nb_core.proofs.machine.Machine.pend.Goals as goal
 
 pub invariant_of-self : goal.invariant_of-self
 invariant_of-self c =
@@ -19,5 +19,5 @@ invariant_of-self c =
     c.self.invariant c.push.ensures.entries refl
     (step_pending m.sheet.sheet m.starts.items m.disposed m.tickets.items m.log.entries (standing c.args.self.now.history) now c.args.var c.put_start.new.starts.items c.owed_of-disposed.result (footing_of c.args.kept) place
     c.requires.kept (ap (λ (n : ℕ). n + 1) c.len-place.ensures.value)
-    (exchanged m.starts.items c.take-start.new.starts.items c.put_start.new.starts.items c.args.var (Some (new_start place (footing_of c.args.kept))) c.take-start.ensures.starts
-    (c.put_start.ensures ∙ ap (λ (s : Start). put c.take-start.new.starts.items c.args.var (Some s)) c.new-new.ensures)))
+    (exchanged m.starts.items c.take-last.new.starts.items c.put_start.new.starts.items c.args.var (Some (new_start place (footing_of c.args.kept))) c.take-last.ensures.starts
+    (c.put_start.ensures ∙ ap (λ (s : Start). put c.take-last.new.starts.items c.args.var (Some s)) c.new-new.ensures)))
