@@ -1,3 +1,4 @@
+pub mod Admitted
 pub mod Few
 pub mod Plans
 pub mod Plus
