@@ -1,1 +1,10 @@
-
+pub mod Agreeing
+pub mod Duplicates
+pub mod Planned
+pub mod SameFootings
+pub mod Sound
+pub mod StartsKept
+pub mod Tables
+pub mod ToldAfter
+pub mod ToldRows
+pub mod Used

@@ -48,9 +48,5 @@ impl Site {
 pub fn sites(alloc: Global, starts: &Vec<Option<Started>>) -> Result<Vec<Site>, AllocError>
     ensures { IfOk result (λ all. all.items ≡ map site_of starts.now.items) }
 {
-    let mut all = Vec::new(alloc);
-    for k in 0..starts.len() {
-        all.push(Site::of(&starts[k]))?;
-    }
-    Ok(all)
+    starts.iter().map(Site::of).collect(alloc)
 }
