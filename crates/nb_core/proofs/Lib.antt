@@ -1,3 +1,4 @@
+pub mod Admitted
 pub mod Completes
 pub mod Few
 pub mod Loads
