@@ -7,3 +7,5 @@ pub mod StartsKept
 pub mod Planned
 pub mod Sound
 pub mod Putting
+pub mod Tables
+pub mod Used
