@@ -1,5 +1,5 @@
 -- What was done of a ready variable's work gives its next entry.
-use Rattle.std.proofs.Common.{ℕ, ◌≡◌, ◌+◌, refl, sym, ◌∙◌, ap, Bool, true, false, cond, not, ◌&&◌, List, [], ◌∷◌, map, length, Option, Some, None, is_some}
+use Rattle.std.proofs.Common.{ℕ, ◌≡◌, ◌+◌, refl, sym, ◌∙◌, ap, Bool, false, cond, not, ◌&&◌, List, [], ◌∷◌, map, length, Option, Some, None, is_some}
 use Rattle.std.specs.Prelude.{◌==◌}
 use Rattle.std.proofs.lemmas.Bool.{and_right}
 use Rattle.nb_value.specs.declared.value.Value.{Value}
@@ -12,7 +12,6 @@ use Rattle.nb_eval.specs.Work.{IsOf}
 use Rattle.nb_eval.specs.declared.given.RunEnd.{RunEnd}
 use Rattle.nb_eval.specs.declared.given.Ending.{Ending}
 use Rattle.nb_eval.specs.declared.given.Ending.TheVariants.{Paused}
-use Rattle.nb_eval.specs.declared.given.Segment.{Segment}
 use Rattle.nb_eval.specs.declared.finished.Finished.{Finished}
 use Rattle.nb_eval.specs.declared.work.Work.TheVariants.{Direct}
 use Rattle.nb_eval.specs.declared.work.WorkDone.TheVariants.{Direct as DirectDone, Ran}
@@ -25,7 +24,7 @@ use Rattle.nb_sheet.specs.Lists.{nth, from_option, option_then, or_else}
 use Rattle.nb_sheet.specs.Sheet.{Sheet}
 use Rattle.nb_history.specs.Reading.{Reading, Start, shown}
 use Rattle.nb_history.specs.Rules.{given, first_error, name_of, deciding_error, body_of, run_body, evaluation, evaluated, entry_of, generates, answers_of, pulls_of, next, last_or_null}
-use Rattle.nb_history.specs.Log.{cleanups_now, is_done}
+use Rattle.nb_history.specs.Log.{is_done}
 use Rattle.nb_runs.specs.Starts.{generates_in}
 use Rattle.nb_work.specs.Over.{IsOver}
 use Rattle.nb_closing.specs.Ties.{Ties}
@@ -34,7 +33,7 @@ use Rattle.nb_work.specs.Work.{work_of, body_work, values_of}
 use Rattle.nb_work.proofs.TiesAt.{no_row}
 use Rattle.nb_work.specs.declared.notice.Notice.{Notice}
 use Rattle.nb_work.specs.declared.notice.Notice.TheVariants as notice
-use Rattle.nb_work.specs.Notices.{shown_entry, notice_entry, cleanups_of, EndsBy, EndsRight, IsEnd, IsNotice}
+use Rattle.nb_work.specs.Notices.{shown_entry, EndsBy, EndsRight, IsEnd, IsNotice}
 
 module _ (r : Reading) (v : ℕ) where
   abbrev run_of : Option BodyOf → Evaluated
@@ -134,7 +133,7 @@ module _ (r : Reading) (v : ℕ) where
           entry = sym (decided generator first none generates_now first_now) ∙ t.entry (length r.tickets + 1) v;
           cleanups = t.cleanups ∙ sym (ap (λ (o : Option CellError). cleanups_by o (body_of r.sheet v)) none);
           ends = right n (ends_right n (generator && is_done here.ending) (ends_by (deciding_error r (shown r) v) (body_of r.sheet v))
-          (ap (λ (x : Bool). x && is_done here.ending) generates_now ∙ sym (ap (λ (o : Option CellError). ends_by o (body_of r.sheet v)) none)) t.ends);
+              (ap (λ (x : Bool). x && is_done here.ending) generates_now ∙ sym (ap (λ (o : Option CellError). ends_by o (body_of r.sheet v)) none)) t.ends);
         }
 
 -- ---- the last of the values

@@ -1,5 +1,5 @@
 -- The reading that a sheet and starts are parts of.
-use Rattle.std.specs.Prelude.{ℕ, ◌≡◌, List, Option}
+use Rattle.std.specs.Prelude.{◌≡◌, List, Option}
 use Rattle.nb_sheet.specs.Sheet.{Sheet}
 use Rattle.nb_history.specs.Reading.{Reading, Start}
 

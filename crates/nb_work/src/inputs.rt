@@ -169,11 +169,7 @@ fn name_of(sheet: &Sheet, var: u32) -> Option<&Text>
 }
 
 /// An error of a variable with this name.
-fn named_error(
-    alloc: Global,
-    kind: ErrorKind,
-    name: Option<&Text>,
-) -> Result<CellError, AllocError>
+fn named_error(alloc: Global, kind: ErrorKind, name: Option<&Text>) -> Result<CellError, AllocError>
     ensures { IfOk result (λ error. error ≡ plain_error kind (from_option [] (λ n. n) (option_copied name.entry))) }
 {
     match name {

@@ -1,9 +1,8 @@
-ghost use Rattle.std.specs.Prelude.{◌≡◌, ◌+◌, ◌&&◌, ℕ, true, length, IfOk};
+ghost use Rattle.std.specs.Prelude.{◌≡◌, ◌+◌, ℕ, length, IfOk};
 ghost use Rattle.nb_sheet.specs.Lists.{from_option};
 ghost use Rattle.nb_value.specs.declared.value.Value.TheVariants.{Null};
 ghost use Rattle.nb_history.specs.Reading.{Reading};
-ghost use Rattle.nb_history.specs.Rules.{ready, next, entry_of as evaluated_entry};
-ghost use Rattle.nb_history.specs.Log.{is_done};
+ghost use Rattle.nb_history.specs.Rules.{next, entry_of as evaluated_entry};
 ghost use Rattle.nb_eval.specs.Evaluation.{Evaluated, run_end};
 ghost use Rattle.nb_eval.specs.Work.{IsOf};
 ghost use Rattle.nb_work.specs.Over.{IsOver};
@@ -29,9 +28,14 @@ pub enum Notice {
         ends: bool,
     },
     /// It asks for a fetch by this key.
-    Asks { key: Text, cleanups: Items<Value> },
+    Asks {
+        key: Text,
+        cleanups: Items<Value>,
+    },
     /// It has no further value.
-    Ends { cleanups: Items<Value> },
+    Ends {
+        cleanups: Items<Value>,
+    },
 }
 
 /// The entry that shows an outcome.
@@ -195,12 +199,7 @@ fn ended_notice(end: RunEnd, generator: bool, first: bool) -> Notice
 }
 
 /// What the start of a ready variable comes to whose work was done. It takes no memory.
-pub fn notice_of(
-    sheet: &Sheet,
-    starts: &Vec<Option<Started>>,
-    var: u32,
-    done: WorkDone,
-) -> Notice
+pub fn notice_of(sheet: &Sheet, starts: &Vec<Option<Started>>, var: u32, done: WorkDone) -> Notice
     ensures { (r : Reading) → IsOver r sheet.now.sheet starts.now.items → IsOf (work_of r var) done → IsNotice r (length r.tickets + 1) var result }
 {
     match done {

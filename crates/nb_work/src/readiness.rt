@@ -1,5 +1,5 @@
 //! Which variables are ready, by the starts and what names tie them to. Nothing here takes memory.
-ghost use Rattle.std.specs.Prelude.{◌≡◌, true, false, [], Some, IfNone, nat_le, ◌&&◌, map, is_some};
+ghost use Rattle.std.specs.Prelude.{◌≡◌, [], nat_le, ◌&&◌, map, is_some};
 ghost use Rattle.std.specs.List.{list_all};
 ghost use Rattle.std.specs.Option.{option_copied};
 ghost use Rattle.nb_sheet.specs.Lists.{nth};

@@ -1,4 +1,4 @@
-ghost use Rattle.std.specs.Prelude.{◌≡◌, true, Some, IfOk};
+ghost use Rattle.std.specs.Prelude.{◌≡◌, true, IfOk};
 ghost use Rattle.nb_history.specs.Reading.{Reading};
 ghost use Rattle.nb_history.specs.Rules.{ready, body_of};
 ghost use Rattle.nb_eval.specs.declared.work.Work.TheVariants.{Run};

@@ -1,4 +1,4 @@
-use Rattle.std.proofs.Common.{◌≡◌, ◌≢◌, length, arith}
+use Rattle.std.proofs.Common.{◌≢◌, length, arith}
 use Rattle.nb_work.specs.Tied.{renewal_of}
 use Rattle.nb_work.proofs.Same.{differ_length}
 use Rattle.nb_work.proofs.readiness.same_renewals.Goals as goal
