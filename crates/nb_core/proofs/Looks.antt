@@ -72,10 +72,10 @@ used_by_ties s (suc i) =
 
 -- whether v is wanted, by its ties
 module _ (h now : History) (view : h ≡ now) (v : ℕ) (disposed : Bool) where
-  pub not_wanted : disposed ≡ (standing h).disposed → disposed ≡ true → false ≡ wanted (standing now) v
+  pub not_wanted : disposed ≡ (standing h).disposed → disposed ≡ true → not disposed ≡ wanted (standing now) v
   not_wanted is gone =
       let here : (standing now).disposed ≡ true = ap (λ (g : History). (standing g).disposed) (sym view) ∙ sym is ∙ gone in
-      sym (ap (λ (b : Bool). not b && is_used (standing now).sheet v) here)
+      ap (λ (b : Bool). not b) gone ∙ sym (ap (λ (b : Bool). not b && is_used (standing now).sheet v) here)
 
   pub wanted_from : (used : Bool) (ties own : List Ties) → disposed ≡ (standing h).disposed → used ≡ from_option false (λ (t : Ties). t.is_used) (nth ties v)
       → ties ≡ own → own ≡ all_ties (standing h).sheet → disposed ≡ false → used ≡ wanted (standing now) v
