@@ -106,7 +106,7 @@ entry_fits h editor event e closed low is in_time =
     subst (Fits (standing h)) is (event_fits h editor event closed low (subst (RestsFor (standing h)) (sym is) in_time))
 
 -- with what closes after it, the history is closed again
-pub gained_closed : (h new : History) (editor : ℕ) (event : Event) (e : Entry) → IsClosedHistory h → editor < 8 → admit (standing h) editor event ≡ e → RestsFor (standing h) e → Gains h e new → IsClosedHistory new
+gained_closed : (h new : History) (editor : ℕ) (event : Event) (e : Entry) → IsClosedHistory h → editor < 8 → admit (standing h) editor event ≡ e → RestsFor (standing h) e → Gains h e new → IsClosedHistory new
 gained_closed h new editor event e closed low is in_time g =
     gains_closed_by h new e g.es closed (entry_fits h editor event e closed low is in_time) g.closes g.builtins g.longer
 
@@ -167,6 +167,19 @@ module _ (h now mid then : History) (view : h ≡ now) (same : mid ≡ h) (e : E
         let kept : Keeps now own = keeps_as h now own view keeps in
         (gained_closed now new editor event e kept.0 low is in_time planned_entry,
         kept.1 ∙ ap all_ties (sym (sheet_then now then e steps entered new plans commits ∙ quiet)))
+
+-- ---- an edit, done with what closes after it
+
+module _ (h now new : History) (editor : ℕ) (edit : SheetEdit) (low : editor < 8) (view : h ≡ now) (ungated : gate (standing now) ≡ None) (admits : refusal (standing h).sheet edit ≡ None)
+    (g : Gains h (Edit editor edit) new) where
+  edit_entry : admit (standing h) editor (EditEvent edit) ≡ Edit editor edit
+  edit_entry = edit_taken (standing h) editor edit (ap (λ (x : History). gate (standing x)) view ∙ ungated) admits
+
+  pub closed_edited : IsClosedHistory h → IsClosedHistory new
+  closed_edited closed = gained_closed h new editor (EditEvent edit) (Edit editor edit) closed low edit_entry tt g
+
+  pub gains_edited : Gains now (admit (standing now) editor (EditEvent edit)) new
+  gains_edited = subst (λ (x : History). Gains x (admit (standing x) editor (EditEvent edit)) new) view (subst (λ (e : Entry). Gains h e new) (sym edit_entry) g)
 
 -- ---- looks at the machine's tickets
 
