@@ -1,12 +1,12 @@
 -- The steps of a start, with what they take of a reading as arguments.
-use Rattle.std.specs.Prelude.{ℕ, ◌≡◌, ◌<◌, zero, suc, ◌+◌, Bool, true, false, cond, ◌&&◌, ◌||◌, not, nat_le, List, [], ◌∷◌, ◌++◌, Option, Some, None, is_some}
+use Rattle.std.specs.Prelude.{ℕ, ◌≡◌, ◌<◌, zero, suc, ◌+◌, Bool, cond, ◌&&◌, ◌||◌, not, nat_le, true, false, List, [], ◌∷◌, Option, Some, None, is_some}
 use Rattle.nb_value.specs.declared.value.Value.{Value}
 use Rattle.nb_value.specs.declared.outcome.Outcome.{Outcome}
 use Rattle.nb_sheet.specs.Sheet.{Sheet}
-use Rattle.nb_sheet.specs.Lists.{from_option, option_then, nth}
-use Rattle.nb_history.specs.Reading.{Reading, Start, Ticket}
+use Rattle.nb_sheet.specs.Lists.{option_then, nth}
+use Rattle.nb_history.specs.Reading.{Start}
 use Rattle.nb_history.specs.Rules.{body_of, generates}
-use Rattle.nb_history.specs.Log.{shows_value, pulled}
+use Rattle.nb_history.specs.Log.{shows_value}
 
 -- `showing`, by the cleanups, whether it ends at once, and the entry's place
 abbrev pub shown_by : Outcome → List Value → Bool → ℕ → Start → Start

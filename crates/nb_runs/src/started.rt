@@ -1,4 +1,4 @@
-ghost use Rattle.std.specs.Prelude.{◌≡◌, ◌<◌, ◌^◌, ◌+◌, ◌∷◌, [], ◌++◌, Some, None, false, true, OnOk, OnErr};
+ghost use Rattle.std.specs.Prelude.{◌≡◌, ◌<◌, ◌^◌, ◌+◌, Some, true, OnOk, OnErr};
 ghost use Rattle.std.specs.Option.{option_copied};
 ghost use Rattle.nb_history.specs.Log.{new_start, answering, shows_value};
 ghost use Rattle.nb_runs.specs.Footings.{footing_of, IsMarked};
@@ -25,7 +25,6 @@ pub struct Started {
 }
 
 impl Model for Started {
-    ghost use Rattle.std.specs.Prelude.{◌≤◌};
     ghost use Rattle.nb_history.specs.Reading.{Start};
     ghost use Rattle.nb_runs.specs.Footings.{footing_of, IsMarked};
     ghost use Rattle.nb_runs.specs.Codes.{start_code};

@@ -1,9 +1,8 @@
-ghost use Rattle.std.specs.Prelude.{◌≡◌, ◌≤◌, ◌<◌, ◌^◌, ◌+◌, ◌-◌, [], length, Some, None, OnOk, OnErr};
+ghost use Rattle.std.specs.Prelude.{◌≡◌, ◌<◌, ◌^◌, ◌+◌, ◌-◌, [], length, Some, None, OnOk, OnErr};
 ghost use Rattle.std.specs.Option.{option_copied};
-ghost use Rattle.nb_sheet.specs.Lists.{nth, put, from_option};
-ghost use Rattle.nb_runs.specs.Starts.{pulled_once, generates_in, all_pulled, change_in, start_in, shown_by, asked_by, ended_by};
+ghost use Rattle.nb_sheet.specs.Lists.{put, from_option};
+ghost use Rattle.nb_runs.specs.Starts.{pulled_once, generates_in, all_pulled, change_in, start_in, shown_by, asked_by, ended_by, PullsBelow};
 ghost use Rattle.nb_history.specs.Log.{answering};
-ghost use Rattle.nb_runs.specs.Starts.{PullsBelow};
 ghost use Rattle.nb_history.specs.Reading.{Start};
 
 use crate::started::Started;
@@ -52,7 +51,13 @@ pub fn pull_all(sheet: &Sheet, starts: &mut Vec<Option<Started>>)
 }
 
 /// Shows an outcome.
-pub fn show_in(start: &mut Option<Started>, outcome: Outcome, cleanups: Items<Value>, ends: bool, place: u64)
+pub fn show_in(
+    start: &mut Option<Started>,
+    outcome: Outcome,
+    cleanups: Items<Value>,
+    ends: bool,
+    place: u64,
+)
     ensures { start.new ≡ change_in start.old (shown_by outcome cleanups ends place) }
 {
     if let Some(start) = start {

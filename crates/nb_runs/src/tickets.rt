@@ -84,11 +84,7 @@ pub fn is_live(starts: &Vec<Option<Started>>, tickets: &Vec<Ticket>, t: u64) -> 
 }
 
 /// The least live ticket with this key. It costs a scan over the tickets.
-pub fn live_of_key(
-    starts: &Vec<Option<Started>>,
-    tickets: &Vec<Ticket>,
-    key: &Text,
-) -> Option<u64>
+pub fn live_of_key(starts: &Vec<Option<Started>>, tickets: &Vec<Ticket>, key: &Text) -> Option<u64>
     ensures { result ≡ live_of_key_in starts.now.items tickets.now.items key.now }
 {
     for k in 0..tickets.len() {
@@ -100,11 +96,7 @@ pub fn live_of_key(
 }
 
 /// The least live ticket that isn't below a number. It costs a scan over the tickets.
-pub fn live_from(
-    starts: &Vec<Option<Started>>,
-    tickets: &Vec<Ticket>,
-    at_least: u64,
-) -> Option<u64>
+pub fn live_from(starts: &Vec<Option<Started>>, tickets: &Vec<Ticket>, at_least: u64) -> Option<u64>
     ensures { result ≡ live_from_in starts.now.items tickets.now.items at_least }
 {
     for k in 0..tickets.len() {

@@ -20,15 +20,24 @@ fn each_change(rt: HostRuntime) -> Result<(), Fail> {
     let alloc = rt.alloc();
     let mut runs = Runs::new(alloc)?;
     assert!(rt; runs.change(3, Change::Started(2)).is_ok() && runs.get(3).start == 2);
-    let asked = Change::Asked { ticket: 1, owed: Items::new(alloc) };
+    let asked = Change::Asked {
+        ticket: 1,
+        owed: Items::new(alloc),
+    };
     assert!(rt; runs.change(3, asked).is_ok() && runs.get(3).start == 2);
     assert!(rt; runs.get(3).ticket == Some(1) && !runs.get(3).running);
     let answered = Change::Answered(Answer::Value(Value::Null));
     assert!(rt; runs.change(3, answered).is_ok() && runs.get(3).start == 2);
     assert!(rt; runs.get(3).answers.as_slice().len() == 1 && runs.get(3).ticket.is_none());
-    let shown = Change::Shown { outcome: Outcome::Value(Value::Null), owed: Items::new(alloc), ended: false };
+    let shown = Change::Shown {
+        outcome: Outcome::Value(Value::Null),
+        owed: Items::new(alloc),
+        ended: false,
+    };
     assert!(rt; runs.get(3).running && runs.change(3, shown).is_ok() && runs.get(3).start == 2);
-    let ended = Change::Ended { owed: one_cleanup(alloc, 1)? };
+    let ended = Change::Ended {
+        owed: one_cleanup(alloc, 1)?,
+    };
     assert!(rt; !runs.get(3).ended && runs.change(3, ended).is_ok() && runs.get(3).start == 2);
     assert!(rt; runs.get(3).ended && runs.get(3).shown.is_some() && runs.get(3).owed.len() == 1);
     assert!(rt; runs.change(3, Change::Left).is_ok());

@@ -23,7 +23,12 @@ fn fetches_and_shows(rt: HostRuntime) -> Result<(), Fail> {
     assert!(rt; start.ticket() == Some(1) && !start.is_running());
     assert!(rt; start.answer(Answer::Value(Value::Int(5))).is_ok());
     assert!(rt; start.ticket().is_none() && start.answers().len() == 1 && start.is_running());
-    start.show(Outcome::Value(Value::Int(7)), one_cleanup(alloc, 0)?, false, 5);
+    start.show(
+        Outcome::Value(Value::Int(7)),
+        one_cleanup(alloc, 0)?,
+        false,
+        5,
+    );
     assert!(rt; shows(&start, 7) && !start.is_running() && start.renewal() == 2);
     assert!(rt; start.into_owed().len() == 1);
     Ok(())
@@ -55,7 +60,13 @@ fn steps_in_a_list(rt: HostRuntime) -> Result<(), Fail> {
     assert!(rt; starts::number_of(&start) == 3 && starts::start_at(&list, 2).is_none());
     starts::ask_in(&mut start, 1, Items::new(alloc));
     assert!(rt; starts::answer_in(&mut start, Answer::Value(Value::Null)).is_ok());
-    starts::show_in(&mut start, Outcome::Value(Value::Int(4)), Items::new(alloc), false, 5);
+    starts::show_in(
+        &mut start,
+        Outcome::Value(Value::Int(4)),
+        Items::new(alloc),
+        false,
+        5,
+    );
     starts::end_in(&mut start, one_cleanup(alloc, 1)?);
     starts::put_start(&mut list, 2, start);
     assert!(rt; starts::start_at(&list, 2).is_some_and(|start| shows(start, 4)));

@@ -53,6 +53,8 @@ fn the_least_is_answered_first(rt: HostRuntime) -> Result<(), Fail> {
     assert!(rt; is_settled(tickets::ticket_at(&given, 1)) && !tickets::is_live(&list, &given, 1));
     assert!(rt; tickets::live_of_key(&list, &given, &key) == Some(2));
     assert!(rt; tickets::live_from(&list, &given, 3).is_none());
-    assert!(rt; !is_settled(tickets::ticket_at(&given, 2)) && tickets::ticket_at(&given, 3).is_none());
+    assert!(rt;
+        !is_settled(tickets::ticket_at(&given, 2)) && tickets::ticket_at(&given, 3).is_none()
+    );
     Ok(())
 }

@@ -23,12 +23,13 @@ loop-k-preserved c =
     let was : slice_get c.args.starts.now.items c.loop-k.k ≡ Some c.index_mut.result.now =
     sym (pulled_get c.args.sheet.now.sheet 1 c.loop-k.k c.args.starts.now.items) ∙ (ap (λ (l : List (Option Start)). slice_get l c.loop-k.k) (sym c.loop-k.invariant.0) ∙ now) in
     let number : c.loop-k.k + 1 ≡ 1 + c.loop-k.k = omega arith in
-    let more : suc c.loop-k.k ≡ c.loop-k.k + 1 = omega arith in
-    (ap (λ (x : Option Start). slice_set c.loop-k.starts.items c.loop-k.k x)
-    (c.pull_at.ensures ∙ (ap (λ g. pulled_once g c.index_mut.result.now) c.generates-generator.ensures ∙ ap (λ (n : ℕ). pulled_once (generates_in c.args.sheet.now.sheet n) c.index_mut.result.now) number))
-    ∙ (ap (λ (l : List (Option Start)). slice_set l c.loop-k.k (pulled_once (generates_in c.args.sheet.now.sheet (1 + c.loop-k.k)) c.index_mut.result.now)) c.loop-k.invariant.0
-    ∙ (pulled_next c.args.sheet.now.sheet 1 c.loop-k.k c.args.starts.now.items c.index_mut.result.now was ∙ ap (λ (n : ℕ). pulled_first c.args.sheet.now.sheet n 1 c.args.starts.now.items) more)),
-    length_set c.loop-k.starts.items c.loop-k.k c.pull_at.new.start ∙ c.loop-k.invariant.1)
+    let more : suc c.loop-k.k ≡ c.loop-k.k + 1 = omega arith in (
+      ap (λ (x : Option Start). slice_set c.loop-k.starts.items c.loop-k.k x)
+          (c.pull_at.ensures ∙ (ap (λ g. pulled_once g c.index_mut.result.now) c.generates-generator.ensures ∙ ap (λ (n : ℕ). pulled_once (generates_in c.args.sheet.now.sheet n) c.index_mut.result.now) number))
+          ∙ (ap (λ (l : List (Option Start)). slice_set l c.loop-k.k (pulled_once (generates_in c.args.sheet.now.sheet (1 + c.loop-k.k)) c.index_mut.result.now)) c.loop-k.invariant.0
+          ∙ (pulled_next c.args.sheet.now.sheet 1 c.loop-k.k c.args.starts.now.items c.index_mut.result.now was ∙ ap (λ (n : ℕ). pulled_first c.args.sheet.now.sheet n 1 c.args.starts.now.items) more)),
+      length_set c.loop-k.starts.items c.loop-k.k c.pull_at.new.start ∙ c.loop-k.invariant.1,
+    )
 
 pub returns : goal.returns
 returns c =

@@ -1,4 +1,3 @@
-use Rattle.std.proofs.Common.{rules, ◌≡◌, ◌∙◌, sym}
 use Rattle.nb_runs.proofs.starts.pull_at.Goals as goal
 
 pub pull-requires : goal.pull-requires

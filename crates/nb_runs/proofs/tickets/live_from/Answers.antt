@@ -1,4 +1,4 @@
-use Rattle.std.proofs.Common.{ℕ, ◌≡◌, ◌+◌, ◌<◌, ◌∙◌, sym, Bool, true, false, nat_le, ◌&&◌, length, arith}
+use Rattle.std.proofs.Common.{◌≡◌, ◌+◌, ◌<◌, ◌∙◌, sym, true, nat_le, ◌&&◌, length, arith}
 use Rattle.std.proofs.lemmas.Bool.{le-leb, lt-leb, and_from, and_left, and_right}
 use Rattle.nb_runs.specs.Tickets.{live_in}
 use Rattle.nb_runs.proofs.Firsts.{next_found, next_missed}

@@ -1,4 +1,4 @@
-use Rattle.std.proofs.Common.{ℕ, ◌≡◌, ◌+◌, ◌<◌, ◌∙◌, sym, Bool, true, false, ◌&&◌, length, arith}
+use Rattle.std.proofs.Common.{◌≡◌, ◌+◌, ◌<◌, ◌∙◌, sym, true, false, ◌&&◌, length, arith}
 use Rattle.std.specs.Str.{bytes_eq}
 use Rattle.std.proofs.lemmas.Bool.{and_from, and_left, and_right}
 use Rattle.nb_sheet.specs.Lists.{nth, from_option}
@@ -24,7 +24,7 @@ loop-k-preserved c =
     c.loop-k.k c.loop-k.invariant
     (elim c.else-is_live.branch [
       | else-is_live-via-then-is_live+else-has_key w ↦ and_right (live_in c.args.starts.now.items c.args.tickets.now.items (c.loop-k.k + 1)) _
-        (key_read c.args.tickets.now.items c.loop-k.k w.index.result.now c.args.key.now inside w.index.ensures ∙ (sym w.has_key.ensures ∙ w.if-has_key.false))
+          (key_read c.args.tickets.now.items c.loop-k.k w.index.result.now c.args.key.now inside w.index.ensures ∙ (sym w.has_key.ensures ∙ w.if-has_key.false))
       | else-is_live-via-else-is_live w ↦ and_left (live_in c.args.starts.now.items c.args.tickets.now.items (c.loop-k.k + 1))
-        (from_option false (λ (k : Ticket). bytes_eq k.key c.args.key.now) (nth c.args.tickets.now.items (c.loop-k.k + 1))) (sym c.is_live.ensures ∙ w.if-is_live.false)
+          (from_option false (λ (k : Ticket). bytes_eq k.key c.args.key.now) (nth c.args.tickets.now.items (c.loop-k.k + 1))) (sym c.is_live.ensures ∙ w.if-is_live.false)
     ])
