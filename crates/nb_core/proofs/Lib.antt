@@ -1,3 +1,4 @@
+pub mod Edits
 pub mod Few
 pub mod Plans
 pub mod Plus
