@@ -1,1 +1,9 @@
-
+pub mod Duplicates
+pub mod SameFootings
+pub mod Agreeing
+pub mod ToldRows
+pub mod ToldAfter
+pub mod StartsKept
+pub mod Planned
+pub mod Sound
+pub mod Putting

@@ -1,3 +1,4 @@
 pub mod Plan
 pub mod Sites
 pub mod Ties
+pub mod Told
