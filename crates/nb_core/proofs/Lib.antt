@@ -1,4 +1,6 @@
+pub mod Admitted
 pub mod Completes
+pub mod Disposing
 pub mod Few
 pub mod Loads
 pub mod Looks

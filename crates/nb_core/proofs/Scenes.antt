@@ -32,7 +32,7 @@ nth_map f xs (suc i) = slice_get-map f xs i
 site_there : (xs : List (Option Start)) (v : ℕ) (s : Start) → nth xs v ≡ Some (Some s) → nth (map site_of xs) v ≡ Some (site_of (Some s))
 site_there xs v s h = nth_map site_of xs v ∙ ap (option_map site_of) h
 
-site_map : (xs : List (Option Start)) (v : ℕ) → site_in (map site_of xs) v ≡ site_of (start_in xs v)
+pub site_map : (xs : List (Option Start)) (v : ℕ) → site_in (map site_of xs) v ≡ site_of (start_in xs v)
 site_map xs v = ap (from_option idle_site (λ (x : Site). x)) (nth_map site_of xs v) ∙ go (nth xs v)
   where
     go : (o : Option (Option Start)) → from_option idle_site (λ (x : Site). x) (option_map site_of o) ≡ site_of (option_then o (λ s. s))
