@@ -1,4 +1,5 @@
 pub mod Plan
 pub mod Sites
+pub mod Tables
 pub mod Ties
 pub mod Told

@@ -1,5 +1,12 @@
+pub mod Admitted
+pub mod Completes
+pub mod Disposing
 pub mod Edits
 pub mod Few
+pub mod Loads
+pub mod Looks
 pub mod Plans
 pub mod Plus
+pub mod Runs
+pub mod Scenes
 pub mod Steps

@@ -176,7 +176,7 @@ impl Core {
 
 /// What a start shows.
 fn shown_by(start: Option<&Started>) -> Shown<'_>
-    ensures { ShownBy (option_copied start) result }
+    ensures { ShownBy (option_copied start.entry) result }
 {
     match start {
         None => Shown::Idle,

@@ -1,4 +1,4 @@
-ghost use Rattle.std.specs.Prelude.{◌≡◌, ◌<◌, true, OnOk, OnErr};
+ghost use Rattle.std.specs.Prelude.{◌≡◌, ◌<◌, true, IfOk, OnOk, OnErr};
 ghost use Rattle.nb_history.specs.History.{standing, IsClosedHistory};
 ghost use Rattle.nb_history.specs.Rules.{ready as ready_of, next};
 ghost use Rattle.nb_history.specs.Work.{to_do};
@@ -26,11 +26,10 @@ fn done_of(alloc: Global, work: Work) -> Result<WorkDone, AllocError>
     }
 }
 
-ghost use Rattle.std.specs.Prelude.{IfOk};
-
 /// Does the work of a ready variable.
 fn step(core: &mut Core, var: u32) -> Result<(), AllocError>
-    requires { ready_of (standing core.old) var ≡ true }
+    requires closed { IsClosedHistory core.old }
+    requires ready { ready_of (standing core.old) var ≡ true }
     ensures gains { OnOk result (Gains core.old (next (standing core.old) var) core.new) }
     ensures fewer { OnOk result (to_do (standing core.new) < to_do (standing core.old)) }
     ensures err { OnErr result (core.new ≡ core.old) }

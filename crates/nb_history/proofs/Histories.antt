@@ -1,7 +1,7 @@
 -- Logs that get one more entry at their end.
 use Rattle.std.proofs.Common.{ℕ, ◌≡◌, refl, sym, ◌∙◌, ap, subst, Bool, true, false, cond, ◌&&◌, List, [], ◌∷◌, ◌++◌, Option, Some, None}
 use Rattle.std.proofs.lemmas.Option.{some_pair_parts, none-some, same_Some}
-use Rattle.std.proofs.lemmas.Bool.{and_right}
+use Rattle.std.proofs.lemmas.Bool.{and_left, and_right}
 use Rattle.std.specs.List.{list_any}
 use Rattle.std.specs.Str.{bytes_eq}
 use Rattle.nb_sheet.specs.Lists.{Name, nth, from_option, option_then, or_else, numbers}
@@ -121,6 +121,16 @@ no_ticket : (r : Reading) → loader_ticket r [] ≡ None
 no_ticket r =
     first_of_none (λ t. is_live r t && from_option false (λ (k : Ticket). list_any (λ key. bytes_eq key k.key) []) (nth r.tickets t)) (numbers r.tickets)
     (λ t. and_right (is_live r t) (from_option false (λ (k : Ticket). list_any (λ key. bytes_eq key k.key) []) (nth r.tickets t)) (never (nth r.tickets t)))
+
+-- nothing is to be loaded where no ticket is live
+pub none_live_to_load : (keys : List Name) (r : Reading) → ((t : ℕ) → is_live r t ≡ false) → to_load keys r ≡ None
+none_live_to_load keys r none = go (may_load r)
+  where
+    go : (b : Bool) → cond b (loader_ticket r keys) None ≡ None
+    go true =
+        first_of_none (λ t. is_live r t && from_option false (λ (k : Ticket). list_any (λ key. bytes_eq key k.key) keys) (nth r.tickets t)) (numbers r.tickets)
+        (λ t. and_left (is_live r t) (from_option false (λ (k : Ticket). list_any (λ key. bytes_eq key k.key) keys) (nth r.tickets t)) (none t))
+    go false = refl
 
 pub nothing_to_load : (r : Reading) → to_load [] r ≡ None
 nothing_to_load r = go (may_load r)

@@ -60,3 +60,5 @@ pub mod Quiets
 pub mod QuietEntries
 pub mod Pulls
 pub mod Gains
+pub mod LiveTickets
+pub mod Admits

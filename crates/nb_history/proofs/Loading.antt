@@ -10,7 +10,7 @@ use Rattle.nb_value.specs.declared.outcome.Answer.{Answer}
 use Rattle.nb_sheet.specs.Lists.{Name, nth, numbers, from_option}
 use Rattle.nb_history.specs.Reading.{Reading, Ticket, is_full}
 use Rattle.nb_history.specs.Rules.{ready, next}
-use Rattle.nb_history.specs.Log.{nothing_yet, after, read_from, reading, IsLegal, admit, is_live, Fits, LegalFrom}
+use Rattle.nb_history.specs.Log.{nothing_yet, after, read_from, reading, IsLegal, admit, is_live, Fits, LegalFrom, Rests}
 use Rattle.nb_history.specs.Serial.{least_var, closing, Todo, loader_ticket, outer_step, may_load, to_load, first_step, AreEditors, SerialFrom}
 use Rattle.nb_history.specs.Starts.{is_of_variable}
 use Rattle.nb_history.specs.Work.{to_do}
@@ -68,9 +68,17 @@ pub record Works (keys : List Name) (answer : Answering) (r : Reading) : Type 0 
   pub done : least_var (read_from r es) (ready (read_from r es)) ≡ None
   pub loaded : to_load keys (read_from r es) ≡ None
 
-load_step : (keys : List Name) (r : Reading) (lines : List (ℕ × Event)) (t : ℕ) (a : Answer) (answers : List Answer)
+pub load_step : (keys : List Name) (r : Reading) (lines : List (ℕ × Event)) (t : ℕ) (a : Answer) (answers : List Answer)
     → closing r ≡ None → least_var r (ready r) ≡ None → to_load keys r ≡ Some t → first_step keys r (to_come lines (a ∷ answers)) ≡ Some (Loaded t a, to_come lines answers)
 load_step keys r lines t a answers closed done load = rw (closed, done) (ap (outer_step r (to_come lines (a ∷ answers))) load)
+
+-- a line comes where nothing is to be loaded, and nothing where there is no line either
+pub line_step_first : (keys : List Name) (r : Reading) (l : ℕ × Event) (lines : List (ℕ × Event)) (answers : List Answer) → closing r ≡ None → least_var r (ready r) ≡ None → to_load keys r ≡ None
+    → first_step keys r (to_come (l ∷ lines) answers) ≡ Some (admit r l.0 l.1, to_come lines answers)
+line_step_first keys r l lines answers closed done loaded = rw (closed, done) (ap (outer_step r (to_come (l ∷ lines) answers)) loaded)
+
+pub nothing_left : (keys : List Name) (r : Reading) → closing r ≡ None → least_var r (ready r) ≡ None → to_load keys r ≡ None → first_step keys r (to_come [] []) ≡ None
+nothing_left keys r closed done loaded = rw (closed, done) (ap (outer_step r (to_come [] [])) loaded)
 
 -- a live ticket, where a loader may be run
 pub record MayLoad (r : Reading) (t : ℕ) : Type 0 where
@@ -78,7 +86,7 @@ pub record MayLoad (r : Reading) (t : ℕ) : Type 0 where
   pub runs : r.disposed ≡ false
   pub room : is_full r ≡ false
 
-may_be_loaded : (keys : List Name) (r : Reading) (t : ℕ) → to_load keys r ≡ Some t → MayLoad r t
+pub may_be_loaded : (keys : List Name) (r : Reading) (t : ℕ) → to_load keys r ≡ Some t → MayLoad r t
 may_be_loaded keys r t h = go (may_load r) refl
   where
     go : (b : Bool) → may_load r ≡ b → MayLoad r t
@@ -91,6 +99,10 @@ may_be_loaded keys r t h = go (may_load r) refl
           runs = not-true r.disposed p.0;
           room = not-true (is_full r) p.1;
         }
+
+-- where the log rests, the answer of a loader may come to each live ticket
+pub loaded_fits : (r : Reading) (t : ℕ) (a : Answer) → Rests r → is_live r t ≡ true → r.disposed ≡ false → is_full r ≡ false → Fits r (Loaded t a)
+loaded_fits r t a rests live runs room = (rests, live, runs, room)
 
 module _ (keys : List Name) (answer : Answering) where
   -- an entry of a variable, and the work from there
@@ -158,15 +170,8 @@ module _ (keys : List Name) (answer : Answering) where
     told : AreTold answer r log
     loaded : to_load keys (read_from r log) ≡ None
 
-  line_step_first : (r : Reading) (l : ℕ × Event) (lines : List (ℕ × Event)) (answers : List Answer) → closing r ≡ None → least_var r (ready r) ≡ None → to_load keys r ≡ None
-      → first_step keys r (to_come (l ∷ lines) answers) ≡ Some (admit r l.0 l.1, to_come lines answers)
-  line_step_first r l lines answers closed done loaded = rw (closed, done) (ap (outer_step r (to_come (l ∷ lines) answers)) loaded)
-
-  nothing_left : (r : Reading) → closing r ≡ None → least_var r (ready r) ≡ None → to_load keys r ≡ None → first_step keys r (to_come [] []) ≡ None
-  nothing_left r closed done loaded = rw (closed, done) (ap (outer_step r (to_come [] [])) loaded)
-
   lined : (lines : List (ℕ × Event)) (r : Reading) → Fit r → AreEditors lines → closing r ≡ None → least_var r (ready r) ≡ None → to_load keys r ≡ None → Lined r lines
-  lined [] r fit editors closed done loaded = record { log = []; used = []; steps = refl; ends = nothing_left r closed done loaded; told = tt; loaded = loaded }
+  lined [] r fit editors closed done loaded = record { log = []; used = []; steps = refl; ends = nothing_left keys r closed done loaded; told = tt; loaded = loaded }
   lined (l ∷ lines) r fit editors closed done loaded =
       let e = admit r l.0 l.1 in
       let fits : Fits r e = admit_fits r l.0 l.1 editors.0 (quiet_closed r fit.law.sound closed, none_ready r fit.law.sound done) in
@@ -180,7 +185,7 @@ module _ (keys : List Name) (answer : Answering) where
         used = used;
         steps = (
           to_come lines used,
-          line_step_first r l lines used closed done loaded,
+          line_step_first keys r l lines used closed done loaded,
           serial_append keys (after r e) (to_come lines used) (to_come lines rest.used) (to_come [] []) w.es rest.log (w.serial lines rest.used) rest.steps,
         );
         ends = ap (λ (x : Reading). first_step keys x (to_come [] [])) reads ∙ rest.ends;

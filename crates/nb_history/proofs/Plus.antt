@@ -1,5 +1,5 @@
 -- One more entry at a log's end: what stands after it, how many entries there are, and their size.
-use Rattle.std.proofs.Common.{ℕ, ◌≡◌, ◌+◌, ◌≤◌, refl, arith, sym, ◌∙◌, ap, List, [], ◌∷◌, ◌++◌, length, codes, append_assoc}
+use Rattle.std.proofs.Common.{ℕ, ◌≡◌, ◌+◌, ◌≤◌, refl, arith, ◌∙◌, ap, List, [], ◌∷◌, length, codes, append_assoc}
 use Rattle.std.specs.Prelude.{sum_by}
 use Rattle.std.proofs.lemmas.List.Sums.{sum_by-cons}
 use Rattle.nb_value.specs.declared.value.Value.{Value}

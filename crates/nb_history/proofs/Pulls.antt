@@ -12,7 +12,7 @@ use Rattle.nb_log.specs.declared.entry.Entry.{Entry}
 use Rattle.nb_log.specs.declared.entry.Entry.TheVariants.{Edit as EditEntry, Frame, Settled, Late, Loaded, Refused, Rest, Dispose, Pending, Fulfilled, Rejected, Asked, Ended, Left}
 use Rattle.nb_history.specs.Reading.{Reading, Start, start_of, is_full}
 use Rattle.nb_history.specs.Rules.{footing, generates, body_of, pulls_of}
-use Rattle.nb_history.specs.Log.{nothing_yet, after, reading, read_from, change_start, with_start, settle, ticket_var, answering, showing, asking, ending_now, new_start, pulled, shows_value, when, event_refusal, first_refusal, admitted, admit, Fits, IsLegal}
+use Rattle.nb_history.specs.Log.{nothing_yet, after, reading, read_from, change_start, with_start, settle, ticket_var, answering, showing, asking, ending_now, new_start, pulled, shows_value, when, event_refusal, admitted, admit, Fits}
 use Rattle.nb_history.specs.Quiet.{PullsAreFew}
 use Rattle.nb_history.proofs.Histories.{legal_keeps}
 use Rattle.nb_history.proofs.Lawful.{put_cases, one_more_entry}

@@ -2,19 +2,19 @@
 use Rattle.std.proofs.Common.{inl, inr, ℕ, ◌≡◌, ◌+◌, ◌≤◌, refl, arith, sym, ◌∙◌, ap, subst, Bool, true, false, not, ◌&&◌, Option, Some, None, is_some}
 use Rattle.std.specs.Prelude.{nat_le}
 use Rattle.std.proofs.lemmas.Bool.{cases_Bool, cases_eq, and_parts, false≢true, false_from_ne_true, eqb-true, leb-true}
+use Rattle.nb_value.specs.declared.outcome.Answer.{Answer}
 use Rattle.nb_value.specs.declared.outcome.Outcome.{Outcome}
 use Rattle.nb_value.specs.declared.outcome.Outcome.TheVariants.{Value as Shows, Error as Fails}
 use Rattle.nb_sheet.specs.Lists.{nth, from_option, option_then}
 use Rattle.nb_log.specs.declared.entry.Entry.{Entry}
 use Rattle.nb_log.specs.declared.entry.Entry.TheVariants.{Frame, Settled, Late, Loaded, Refused, Rest, Fulfilled, Rejected, Asked, Ended}
-use Rattle.nb_history.specs.Reading.{Reading, Start, Footing, start_of, number, renewal}
-use Rattle.nb_history.specs.Rules.{is_running, pulls_of, generates, body_of}
-use Rattle.nb_history.specs.Log.{after, change_start, settle, ticket_var, answering, showing, asking, ending_now, pulled, pulled_from, shows_value, IsQuiet}
-use Rattle.nb_history.specs.Starts.{is_notice_of}
+use Rattle.nb_history.specs.Reading.{Reading, Start, Footing, start_of}
+use Rattle.nb_history.specs.Rules.{is_running, pulls_on, pulls_of, generates, body_of}
+use Rattle.nb_history.specs.Log.{after, change_start, settle, ticket_var, answering, answered, showing, asking, ending_now, pulled, pulled_from, shows_value, IsQuiet}
 use Rattle.nb_history.specs.Quiet.{may_open, OthersStayQuiet, FirstPullsStayQuiet}
 use Rattle.nb_history.proofs.StartsAfter.{start_pulled, pulled_part, changed_itself, changed_other, Runs, running_start}
 use Rattle.nb_history.proofs.Between.{Keeps, view}
-use Rattle.nb_history.proofs.Quiets.{kept_of, GoesOn, quiet_on}
+use Rattle.nb_history.proofs.Quiets.{kept_of, Alike, SameKept, same_alike, quiet_while, GoesOn, quiet_on}
 
 -- ---- a frame
 
@@ -53,6 +53,14 @@ frame_goes_on r = record {
 
 -- ---- one start changes
 
+-- and keeps its number, footing and renewal
+change_same : (r : Reading) (u : ℕ) (f : Start → Start) → ((s : Start) → Keeps s (f s)) → SameKept r (change_start r u f).starts
+change_same r u f keeps = record {
+  number = view r u f (λ (o : Option Start). from_option 0 (λ (s : Start). s.number) o) (λ s e. (keeps s).number);
+  renewal = view r u f (λ (o : Option Start). from_option 0 (λ (s : Start). s.renewal) o) (λ s e. (keeps s).renewal);
+  kept = view r u f kept_of (λ s e. ap (λ (k : Footing). Some k) (keeps s).kept);
+}
+
 -- it runs at a second or later pull, where it did
 abbrev pub GoesOnPulling : Start → Start → Type 0
 GoesOnPulling s t = s.running ≡ true → nat_le 2 s.pulls ≡ true → (t.running ≡ true) × (nat_le 2 t.pulls ≡ true)
@@ -74,6 +82,7 @@ module _ (r : Reading) (u : ℕ) (f : Start → Start) (keeps : (s : Start) → 
             (ap runs now ∙ on.0, ap (λ (o : Option Start). nat_le 2 (count o)) now ∙ on.1)
       ]
 
+  -- nothing is leaving or due after it where nothing was
   pub change_quiet : IsQuiet r → IsQuiet (change_start r u f)
   change_quiet = quiet_on r (change_start r u f).starts (record {
     number = view r u f (λ (o : Option Start). from_option 0 (λ (s : Start). s.number) o) (λ s e. (keeps s e).number);
@@ -100,6 +109,59 @@ stays_quiet r e h quiet = absurd (false≢true (sym h))
 
 pub others_stay_quiet : OthersStayQuiet
 others_stay_quiet = stays_quiet
+
+-- ---- entries that leave what each start rests on
+
+-- the sheet, what is wanted, and each start's number, renewal and kept footing stay
+abbrev pub keeps_footings : Entry → Bool
+keeps_footings (Frame editor) = true
+keeps_footings (Settled editor t a) = true
+keeps_footings (Late editor t) = true
+keeps_footings (Loaded t a) = true
+keeps_footings (Refused editor reason event) = true
+keeps_footings (Rest editor) = true
+keeps_footings (Asked v t key) = true
+keeps_footings (Ended v) = true
+keeps_footings e = false
+
+same_starts : (r : Reading) → SameKept r r.starts
+same_starts r = record { number = λ v. refl; renewal = λ v. refl; kept = λ v. refl }
+
+same_frame : (r : Reading) → SameKept r (pulled_from r 1 r.starts)
+same_frame r = let on = frame_goes_on r in record { number = on.number; renewal = on.renewal; kept = on.kept }
+
+same_answer : (r : Reading) (t : ℕ) (a : Answer) → SameKept (settle r t) (answered r t a).starts
+same_answer r t a = change_same (settle r t) (ticket_var r t) (answering a) (λ s. record { number = refl; kept = refl; renewal = refl })
+
+same_ask : (r : Reading) (v t : ℕ) → SameKept r (change_start r v (asking r v t)).starts
+same_ask r v t = change_same r v (asking r v t) (λ s. record { number = refl; kept = refl; renewal = refl })
+
+same_end : (r : Reading) (v : ℕ) → SameKept r (change_start r v (ending_now r v)).starts
+same_end r v = change_same r v (ending_now r v) (λ s. record { number = refl; kept = refl; renewal = refl })
+
+-- who leaves, and who is behind or overtaken, stays
+pub stays_alike : (r : Reading) (e : Entry) → keeps_footings e ≡ true → Alike r (after r e)
+stays_alike r (Frame editor) h = let b = same_alike r (pulled_from r 1 r.starts) (same_frame r) in record { footing = b.footing; leaving = b.leaving; behind = b.behind; overtaken = b.overtaken }
+stays_alike r (Settled editor t a) h = let b = same_alike (settle r t) (answered r t a).starts (same_answer r t a) in record { footing = b.footing; leaving = b.leaving; behind = b.behind; overtaken = b.overtaken }
+stays_alike r (Late editor t) h = record { footing = λ v. refl; leaving = λ v. refl; behind = λ v. refl; overtaken = λ v. refl }
+stays_alike r (Loaded t a) h = let b = same_alike (settle r t) (answered r t a).starts (same_answer r t a) in record { footing = b.footing; leaving = b.leaving; behind = b.behind; overtaken = b.overtaken }
+stays_alike r (Refused editor reason event) h = record { footing = λ v. refl; leaving = λ v. refl; behind = λ v. refl; overtaken = λ v. refl }
+stays_alike r (Rest editor) h = record { footing = λ v. refl; leaving = λ v. refl; behind = λ v. refl; overtaken = λ v. refl }
+stays_alike r (Asked v t key) h = let b = same_alike r (change_start r v (asking r v t)).starts (same_ask r v t) in record { footing = b.footing; leaving = b.leaving; behind = b.behind; overtaken = b.overtaken }
+stays_alike r (Ended v) h = let b = same_alike r (change_start r v (ending_now r v)).starts (same_end r v) in record { footing = b.footing; leaving = b.leaving; behind = b.behind; overtaken = b.overtaken }
+stays_alike r e h = absurd (false≢true h)
+
+-- so nothing is leaving or due after such an entry, where nothing was and something is still pulling if something was
+pub quiet_while_pulling : (r : Reading) (e : Entry) → keeps_footings e ≡ true → (pulls_on r ≡ true → pulls_on (after r e) ≡ true) → IsQuiet r → IsQuiet (after r e)
+quiet_while_pulling r (Asked v t key) h on quiet = quiet_while r (change_start r v (asking r v t)).starts (same_ask r v t) on quiet
+quiet_while_pulling r (Ended v) h on quiet = quiet_while r (change_start r v (ending_now r v)).starts (same_end r v) on quiet
+quiet_while_pulling r (Frame editor) h on quiet = stays_quiet r (Frame editor) refl quiet
+quiet_while_pulling r (Settled editor t a) h on quiet = stays_quiet r (Settled editor t a) refl quiet
+quiet_while_pulling r (Late editor t) h on quiet = stays_quiet r (Late editor t) refl quiet
+quiet_while_pulling r (Loaded t a) h on quiet = stays_quiet r (Loaded t a) refl quiet
+quiet_while_pulling r (Refused editor reason event) h on quiet = stays_quiet r (Refused editor reason event) refl quiet
+quiet_while_pulling r (Rest editor) h on quiet = stays_quiet r (Rest editor) refl quiet
+quiet_while_pulling r e h on quiet = absurd (false≢true h)
 
 -- ---- a notice at a first pull
 

@@ -9,16 +9,17 @@ use Rattle.nb_graph.specs.Needs.{has}
 use Rattle.nb_sheet.specs.Lists.{Name, nth, numbers, from_option, option_then, or_else}
 use Rattle.nb_history.specs.Reading.{Reading, Ticket, is_idle, is_full}
 use Rattle.nb_history.specs.Rules.{ready, next}
-use Rattle.nb_history.specs.Log.{nothing_yet, after, read_from, reading, admit, admitted, first_refusal, is_live, Fits, LegalFrom, NothingReady, Rests, IsOfEvent}
+use Rattle.nb_history.specs.Log.{nothing_yet, after, read_from, reading, admit, admitted, first_refusal, is_live, Fits, LegalFrom, IsQuiet, NothingReady, Rests, IsOfEvent}
 use Rattle.nb_history.specs.Serial.{least_var, closing, next_of_ready, Todo, Step, line_step, loader_ticket, loaded_step, outer_step, may_load, to_load, first_step, AreEditors, SerialFrom, serial_within}
 use Rattle.nb_history.specs.Ends.{SerialIsLegal, SerialIsOne, SerialRests, SerialIsFirst}
 use Rattle.nb_history.specs.Starts.{is_of_variable}
+use Rattle.nb_history.specs.History.{History, standing, IsClosedHistory}
 use Rattle.nb_log.specs.declared.event.Target.TheVariants.{Ticket as ByTicket, Key as ByKey}
 use Rattle.nb_log.specs.declared.event.Event.{Event}
 use Rattle.nb_log.specs.declared.event.Event.TheVariants.{Edit as EditEvent, Frame as FrameEvent, Settle, Rest as RestEvent, Dispose as DisposeEvent}
 use Rattle.nb_log.specs.declared.entry.Refusal.{Refusal}
 use Rattle.nb_log.specs.declared.entry.Entry.{Entry}
-use Rattle.nb_log.specs.declared.entry.Entry.TheVariants.{Edit, Frame, Settled, Late, Loaded, Refused, Rest, Dispose}
+use Rattle.nb_log.specs.declared.entry.Entry.TheVariants.{Edit, Frame, Settled, Late, Loaded, Refused, Rest, Dispose, Pending, Fulfilled, Rejected, Asked, Ended, Left}
 use Rattle.nb_history.proofs.Closing.{first_some, first_none, started_has}
 use Rattle.nb_history.proofs.Histories.{serial_one}
 use Rattle.nb_history.proofs.Shapes.{Sound, sound_after, sound_first, sound_reading}
@@ -72,14 +73,79 @@ line_fits r e h rests of = absurd (false≢true h)
 pub admit_fits : (r : Reading) (editor : ℕ) (event : Event) → editor < 8 → Rests r → Fits r (admit r editor event)
 admit_fits r editor event less rests = line_fits r (admit r editor event) (admit_line r editor event) rests (editor, event, less, refl)
 
+-- what a rest asks beside that nothing is leaving or due
+abbrev pub RestsFor : Reading → Entry → Type 0
+RestsFor r (Rest editor) = NothingReady r
+RestsFor r e = Unit {0}
+
+-- where nothing is leaving or due, an entry of an event fits, and a rest where nothing is ready besides
+pub line_fits_quiet : (r : Reading) (e : Entry) → is_line e ≡ true → IsQuiet r → RestsFor r e → IsOfEvent r e → Fits r e
+line_fits_quiet r (Edit editor edit) h quiet rests of = (quiet, of)
+line_fits_quiet r (Frame editor) h quiet rests of = (quiet, of)
+line_fits_quiet r (Settled editor t a) h quiet rests of = (quiet, of)
+line_fits_quiet r (Late editor t) h quiet rests of = (quiet, of)
+line_fits_quiet r (Refused editor reason event) h quiet rests of = (quiet, of)
+line_fits_quiet r (Dispose editor) h quiet rests of = (quiet, of)
+line_fits_quiet r (Rest editor) h quiet rests of = ((quiet, rests), of)
+line_fits_quiet r e h quiet rests of = absurd (false≢true h)
+
+pub admit_fits_quiet : (r : Reading) (editor : ℕ) (event : Event) → editor < 8 → IsQuiet r → RestsFor r (admit r editor event) → Fits r (admit r editor event)
+admit_fits_quiet r editor event less quiet rests = line_fits_quiet r (admit r editor event) (admit_line r editor event) quiet rests (editor, event, less, refl)
+
+-- a rest alone gives a rest
+abbrev pub is_rest : Event → Bool
+is_rest RestEvent = true
+is_rest event = false
+
+pub nothing_ready_rests : (r : Reading) (e : Entry) → NothingReady r → RestsFor r e
+nothing_ready_rests r (Rest editor) h = h
+nothing_ready_rests r (Edit editor edit) h = tt
+nothing_ready_rests r (Frame editor) h = tt
+nothing_ready_rests r (Settled editor t a) h = tt
+nothing_ready_rests r (Late editor t) h = tt
+nothing_ready_rests r (Loaded t a) h = tt
+nothing_ready_rests r (Refused editor reason event) h = tt
+nothing_ready_rests r (Dispose editor) h = tt
+nothing_ready_rests r (Pending v d) h = tt
+nothing_ready_rests r (Fulfilled v x) h = tt
+nothing_ready_rests r (Rejected v e) h = tt
+nothing_ready_rests r (Asked v t key) h = tt
+nothing_ready_rests r (Ended v) h = tt
+nothing_ready_rests r (Left v d) h = tt
+
+pub other_rests : (r : Reading) (editor : ℕ) (event : Event) → is_rest event ≡ false → RestsFor r (admit r editor event)
+other_rests r editor event h = go (first_refusal r event)
+  where
+    by_ticket : (t : ℕ) (a : Answer) (b : Bool) → RestsFor r (cond b (Settled editor t a) (Late editor t))
+    by_ticket t a true = tt
+    by_ticket t a false = tt
+
+    of : (event : Event) → is_rest event ≡ false → RestsFor r (admitted r editor event)
+    of (EditEvent edit) h = tt
+    of FrameEvent h = tt
+    of (Settle (ByTicket t) a) h = by_ticket t a (is_live r t)
+    of (Settle (ByKey key) a) h = tt
+    of RestEvent h = absurd (false≢true (sym h))
+    of DisposeEvent h = tt
+
+    go : (o : Option Refusal) → RestsFor r (from_option (admitted r editor event) (λ reason. Refused editor reason event) o)
+    go None = of event h
+    go (Some reason) = tt
+
+-- over a closed history
+pub event_fits : (h : History) (editor : ℕ) (event : Event) → IsClosedHistory h → editor < 8 → RestsFor (standing h) (admit (standing h) editor event) → Fits (standing h) (admit (standing h) editor event)
+event_fits h editor event closed less rests = admit_fits_quiet (standing h) editor event less closed.quiet rests
+
 -- ---- nothing is ready where no variable of the sheet is
+
+-- what is ready is a variable of the sheet
+pub ready_has : (r : Reading) → Sound r → (v : ℕ) → ready r v ≡ true → has (numbers r.sheet.rows) v ≡ true
+ready_has r sound v h = let runs : Runs r v = ready_runs r v h in started_has r sound.shaped v (ap is_idle runs.there)
 
 pub none_ready : (r : Reading) → Sound r → least_var r (ready r) ≡ None → NothingReady r
 none_ready r sound none v =
     false_from_ne_true (ready r v) (λ h.
-    let runs : Runs r v = ready_runs r v h in
-    let number : has (numbers r.sheet.rows) v ≡ true = started_has r sound.shaped v (ap is_idle runs.there) in
-    false≢true (sym (first_none (ready r) (numbers r.sheet.rows) none v number) ∙ h))
+    false≢true (sym (first_none (ready r) (numbers r.sheet.rows) none v (ready_has r sound v h)) ∙ h))
 
 -- ---- each step fits
 

@@ -1,15 +1,18 @@
-ghost use Rattle.std.specs.Prelude.{◌≡◌, ◌<◌, ◌≤◌, ◌+◌, true, length, IfOk, IfErr, OnErr, IsTrue, ◌↔◌};
+ghost use Rattle.std.specs.Prelude.{◌≡◌, ◌<◌, ◌≤◌, ◌+◌, ◌^◌, true, length, IfOk, IfErr, OnErr, IsTrue, ◌↔◌};
 ghost use Rattle.nb_eval.specs.Work.{IsOf};
-ghost use Rattle.nb_history.specs.History.{standing, plus};
+ghost use Rattle.nb_sheet.specs.Lists.{from_option};
+ghost use Rattle.nb_history.specs.History.{standing, plus, IsClosedHistory};
+ghost use Rattle.nb_history.specs.Reading.{Start};
 ghost use Rattle.nb_history.specs.Log.{after};
 ghost use Rattle.nb_history.specs.Rules.{ready as ready_of, next};
+ghost use Rattle.nb_runs.specs.Starts.{start_in};
 ghost use Rattle.nb_closing.specs.Plan.{Plans};
 ghost use Rattle.nb_closing.specs.Sites.{IsScene};
 ghost use Rattle.nb_closing.specs.Ties.{all_ties};
 ghost use Rattle.nb_work.specs.Notices.{IsNotice};
 ghost use Rattle.nb_work.specs.Work.{work_of};
 ghost use Rattle.nb_core.specs.Core.{Gains, Places};
-ghost use Rattle.nb_core.specs.Sites.{is_outcome, stopped_at};
+ghost use Rattle.nb_core.specs.Sites.{is_outcome, stopped_site, stopped_at};
 
 use crate::calls::Core;
 use crate::machine::Machine;
@@ -17,6 +20,8 @@ use crate::placed::Placed;
 use nb_closing::{Closer, Moment, Site, Step, sites};
 use nb_eval::{WorkDone, is_work_of};
 use nb_log::Entry;
+use nb_runs::Started;
+use nb_runs::starts::start_at;
 use nb_work::{Notice, entry_of, notice_of};
 use std::alloc::{AllocError, Global};
 use std::mem::drop;
@@ -91,6 +96,7 @@ fn prepare(
     var: u32,
     done: &WorkDone,
 ) -> Result<(Entry, Vec<Step>), AllocError>
+    requires closed { IsClosedHistory machine.old.history }
     requires ties { closer.old ≡ all_ties (standing machine.old.history).sheet }
     requires ready { ready_of (standing machine.old.history) var ≡ true }
     requires work { IsOf (work_of (standing machine.old.history) var) done.now }
@@ -102,10 +108,43 @@ fn prepare(
 {
     let ticket = machine.tickets().len() as u64 + 1;
     let entry = entry_of(alloc, machine.sheet(), machine.starts(), var, ticket, done)?;
-    let moment = moment_after(alloc, machine, var, &entry)?;
-    let steps = closer.plan(machine.sheet(), machine.starts(), &moment)?;
+    let steps = steps_after(alloc, machine, closer, var, &entry)?;
     machine.reserve(steps.len() + 1)?;
     Ok((entry, steps))
+}
+
+/// The steps by which the log closes after the next entry of a ready variable: none after one of its first pull. It fails only
+/// without memory.
+fn steps_after(
+    alloc: Global,
+    machine: &Machine,
+    closer: &mut Closer,
+    var: u32,
+    entry: &Entry,
+) -> Result<Vec<Step>, AllocError>
+    requires closed { IsClosedHistory machine.now.history }
+    requires ties { closer.old ≡ all_ties (standing machine.now.history).sheet }
+    requires ready { ready_of (standing machine.now.history) var ≡ true }
+    requires next { entry.now ≡ next (standing machine.now.history) var }
+    ensures plans { IfOk result (λ steps. Plans (after (standing machine.now.history) entry.now) steps.items) }
+    ensures same { closer.new ≡ closer.old }
+{
+    if is_first_pull(machine.starts(), var) {
+        return Ok(Vec::new(alloc));
+    }
+    let moment = moment_after(alloc, machine, var, entry)?;
+    let steps = closer.plan(machine.sheet(), machine.starts(), &moment)?;
+    Ok(steps)
+}
+
+/// Whether a variable was pulled no more than by its start.
+fn is_first_pull(starts: &Vec<Option<Started>>, var: u32) -> bool
+    ensures { IsTrue result ↔ from_option 0 (λ (s : Start). s.pulls) (start_in starts.now.items var) ≤ 1 }
+{
+    match start_at(starts, var) {
+        None => true,
+        Some(start) => start.pulls() <= 1,
+    }
 }
 
 /// What stands after the next entry of a ready variable. It fails only without memory.
@@ -118,11 +157,11 @@ fn moment_after(
     requires ready { ready_of (standing machine.now.history) var ≡ true }
     requires next { entry.now ≡ next (standing machine.now.history) var }
     ensures scene { IfOk result (λ moment. IsScene (after (standing machine.now.history) entry.now) (standing machine.now.history).sheet (standing machine.now.history).starts moment) }
-    ensures place { IfOk result (λ moment. moment.place ≡ length machine.now.history.log + 2) }
+    ensures low { IfOk result (λ moment. moment.place + 2048 < 2 ^ 64) }
 {
     let place = machine.len() + 1;
     let mut sites = sites(alloc, machine.starts())?;
-    stop_site(&mut sites, var, shows_outcome(entry), place);
+    stop_at(&mut sites, var, shows_outcome(entry), place);
     Ok(Moment {
         sites,
         disposed: machine.is_disposed(),
@@ -141,17 +180,24 @@ fn shows_outcome(entry: &Entry) -> bool
     }
 }
 
-/// The site of a variable that stops running at a place. An outcome of a second or later pull renews it.
-fn stop_site(sites: &mut Vec<Site>, var: u32, shows: bool, place: u64)
+/// A start stops running at a place. An outcome of a second or later pull renews it.
+fn stop(site: &mut Site, shows: bool, place: u64)
+    ensures { site.new ≡ stopped_site shows place site.old }
+{
+    if shows && site.later {
+        site.renewal = place;
+    }
+    site.later = false;
+}
+
+/// A variable's start stops running at a place.
+fn stop_at(sites: &mut Vec<Site>, var: u32, shows: bool, place: u64)
     ensures { sites.new.items ≡ stopped_at sites.old.items var shows place }
 {
-    if var >= 1 && var as usize <= sites.len() {
-        let site = &mut sites[var as usize - 1];
-        if shows && site.later {
-            site.renewal = place;
-        }
-        site.later = false;
+    if var == 0 || var as usize > sites.len() {
+        return;
     }
+    stop(&mut sites[var as usize - 1], shows, place);
 }
 
 /// Adds the entry of a notice. It takes no memory.
