@@ -1,5 +1,5 @@
 -- What an edit makes of the machine's parts, and what the log gains by it.
-use Rattle.std.proofs.Common.{ℕ, ◌≡◌, ◌+◌, ◌-◌, sym, ◌∙◌, ap, Bool, List, [], ◌∷◌, ◌++◌, length, map, replicate, Option, None}
+use Rattle.std.proofs.Common.{ℕ, ◌≡◌, ◌+◌, ◌-◌, sym, ◌∙◌, ap, Bool, List, [], ◌∷◌, ◌++◌, length, replicate, Option, None}
 use Rattle.nb_value.specs.declared.value.Value.{Value}
 use Rattle.nb_value.specs.declared.pairs.Field.{Field}
 use Rattle.nb_sheet.specs.Sheet.{Sheet, edited_sheet}
@@ -12,33 +12,13 @@ use Rattle.nb_history.specs.History.{History, standing, plus, plus_all}
 use Rattle.nb_history.proofs.EditedRows.{edited_builtins}
 use Rattle.nb_history.proofs.StartsAfter.{start_sheet}
 use Rattle.nb_history.proofs.Shapes.{Sound, sound_reading, shaped_after}
-use Rattle.nb_runs.specs.Starts.{start_in}
-use Rattle.nb_closing.specs.declared.site.Site.{Site}
-use Rattle.nb_closing.specs.declared.site.Moment.{Moment}
 use Rattle.nb_closing.specs.declared.step.Step.{Step}
-use Rattle.nb_closing.specs.Sites.{site_of, site_in, kept_of, IsScene}
 use Rattle.nb_closing.specs.Plan.{Plans, planned}
 use Rattle.nb_closing.specs.Ties.{all_ties}
 use Rattle.nb_core.specs.Core.{Gains}
 use Rattle.nb_core.specs.Stands.{leaves, Stands, HasParts}
 use Rattle.nb_core.proofs.Plans.{plan_then, gains_plan, sheet_then}
 use Rattle.nb_core.proofs.Plus.{stands_plus}
-use Rattle.nb_core.proofs.Scenes.{site_map}
-
--- the scene of a reading with these parts
-pub scene : (r : Reading) (sheet : Sheet) (starts starts' : List (Option Start)) (disposed : Bool) (entries : ℕ) (moment : Moment)
-    → starts' ≡ starts → moment.sites.items ≡ map site_of starts' → moment.disposed ≡ disposed → moment.place ≡ entries + 1
-    → HasParts r sheet starts disposed entries → IsScene r sheet starts' moment
-scene r sheet starts starts' disposed entries moment same sites is_disposed place h = record {
-  sheet = h.sheet;
-  shaped = h.shaped;
-  kept = λ v. ap kept_of (h.starts v ∙ ap (λ (ss : List (Option Start)). start_in ss v) (sym same));
-  sites = λ v.
-    ap site_of (h.starts v ∙ ap (λ (ss : List (Option Start)). start_in ss v) (sym same)) ∙ sym (site_map starts' v)
-    ∙ ap (λ (all : List Site). site_in all v) (sym sites);
-  disposed = h.disposed ∙ sym is_disposed;
-  place = place ∙ ap (λ (n : ℕ). n + 1) (sym h.entries);
-}
 
 -- an edit at this place, after which the sheet is sheet', and the log has its entry
 module _ (h : History) (sheet sheet' : Sheet) (starts : List (Option Start)) (disposed : Bool) (tickets : List Ticket) (log log' : List Entry) (editor : ℕ) (edit : Edit) (place : ℕ)
