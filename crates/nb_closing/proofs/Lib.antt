@@ -1,11 +1,11 @@
-pub mod Duplicates
-pub mod SameFootings
 pub mod Agreeing
-pub mod ToldRows
-pub mod ToldAfter
-pub mod StartsKept
+pub mod Duplicates
 pub mod Planned
-pub mod Sound
 pub mod Putting
+pub mod SameFootings
+pub mod Sound
+pub mod StartsKept
 pub mod Tables
+pub mod ToldAfter
+pub mod ToldRows
 pub mod Used

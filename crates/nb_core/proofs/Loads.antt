@@ -4,11 +4,10 @@ use Rattle.std.specs.Prelude.{nat_le}
 use Rattle.std.proofs.lemmas.Bool.{false≢true}
 use Rattle.std.proofs.lemmas.Option.{none-some}
 use Rattle.nb_value.specs.declared.outcome.Answer.{Answer}
-use Rattle.nb_log.specs.declared.entry.Entry.{Entry}
 use Rattle.nb_log.specs.declared.entry.Entry.TheVariants.{Loaded}
 use Rattle.nb_log.specs.declared.entry.Refusal.{Refusal}
 use Rattle.nb_log.specs.declared.entry.Refusal.TheVariants.{Disposed, LogFull}
-use Rattle.nb_sheet.specs.Lists.{Name, nth, numbers, from_option, or_else}
+use Rattle.nb_sheet.specs.Lists.{nth, numbers, or_else}
 use Rattle.nb_history.specs.Reading.{Reading, Start, Ticket, is_full}
 use Rattle.nb_history.specs.Rules.{ready}
 use Rattle.nb_history.specs.Log.{after, when, is_live, NothingReady, Fits}
@@ -22,7 +21,7 @@ use Rattle.nb_history.proofs.QuietEntries.{stays_quiet}
 use Rattle.nb_history.proofs.Plus.{standing_plus}
 use Rattle.nb_closing.specs.Ties.{Ties, all_ties}
 use Rattle.nb_runs.specs.Tickets.{live_in, live_from_in}
-use Rattle.nb_core.specs.Core.{Gains, MayLoad, gate, live_from, key_of}
+use Rattle.nb_core.specs.Core.{Gains, MayLoad, gate}
 
 -- ---- whether one may come
 
@@ -97,17 +96,3 @@ pub live_there : (xs : List (Option Start)) (ts : List Ticket) (n t : ℕ) → l
 live_there xs ts n t found none =
     let p : (k : Ticket) × (nth ts t ≡ Some k) = number_has ts t (first_some (λ t. nat_le n t && live_in xs ts t) (numbers ts) t found).1 in
     none-some p.0 (sym none ∙ p.1)
-
-module _ (h now : History) (view : h ≡ now) (xs : List (Option Start)) (ts : List Ticket) (starts : xs ≡ (standing h).starts) (tickets : ts ≡ (standing h).tickets) (n : ℕ) where
-  tickets_now : ts ≡ (standing now).tickets
-  tickets_now = tickets ∙ ap (λ (g : History). (standing g).tickets) view
-
-  pub live_now : live_from_in xs ts n ≡ live_from (standing now) n
-  live_now =
-      ap (λ (l : List (Option Start)). live_from_in l ts n) (starts ∙ ap (λ (g : History). (standing g).starts) view)
-      ∙ ap (λ (l : List Ticket). live_from_in (standing now).starts l n) tickets_now
-
-  pub key_now : (t : ℕ) (k : Ticket) → nth ts t ≡ Some k → k.key ≡ key_of (standing now) t
-  key_now t k there =
-      let key : Option Ticket → Name = from_option [] (λ (k : Ticket). k.key) in
-      ap key (sym there) ∙ ap (λ (l : List Ticket). key (nth l t)) tickets_now

@@ -5,9 +5,6 @@ use Rattle.nb_history.specs.History.{History, standing}
 use Rattle.nb_core.proofs.Admitted.{taken, keeps_as, plans_left, gains_planned, kept_planned}
 use Rattle.nb_core.proofs.calls.Core.dispose.Goals as goal
 
-pub invariant_of-self : goal.invariant_of-self
-invariant_of-self c = keeps_as c.self-2.inside.machine.history c.reserve.new.self.history c.self-2.inside.closer (sym c.reserve.ensures.same) c.self-2.invariant
-
 pub commit-requires-clause-plans : goal.commit-requires-clause-plans
 commit-requires-clause-plans c =
     plans_left c.self-2.inside.machine.history c.args.self.now c.reserve.new.self.history c.dispose.new.self.history (c.self-2.view_is ∙ c.leaving_all.ensures.same) c.reserve.ensures.same

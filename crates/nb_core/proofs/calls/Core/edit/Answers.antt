@@ -14,9 +14,6 @@ refuse-requires-clause-refused c =
     (ap (λ (h : History). refusal (standing h).sheet c.args.edit) (sym c.self.view_is) ∙ ap (λ (s : Sheet). refusal s c.args.edit) (sym c.sheet.ensures.value) ∙ sym c.in-Err.ensures)
     ∙ ap (λ (reason : Refusal). Refused c.args.editor reason (EditEvent c.args.edit)) (sym c.refusal_of.ensures)
 
-pub edit-requires-clause-admitted : goal.edit-requires-clause-admitted
-edit-requires-clause-admitted c = ap (λ (s : Sheet). refusal s c.args.edit) (sym c.sheet.ensures.value) ∙ sym c.in_default.ensures
-
 pub invariant_of-self : goal.invariant_of-self
 invariant_of-self c =
     let h : History = c.self.inside.machine.history in

@@ -5,9 +5,6 @@ use Rattle.nb_history.specs.History.{History, standing}
 use Rattle.nb_core.proofs.Admitted.{taken, few_entries, keeps_as, kept_after, gains_entry}
 use Rattle.nb_core.proofs.calls.Core.frame.Goals as goal
 
-pub invariant_of-self : goal.invariant_of-self
-invariant_of-self c = keeps_as c.self.inside.machine.history c.reserve.new.self.history c.self.inside.closer (sym c.reserve.ensures.same) c.self.invariant
-
 pub frame-requires-clause-few : goal.frame-requires-clause-few
 frame-requires-clause-few c =
     subst (λ (h : History). length h.log + 1 < 2 ^ 32) (sym (c.reserve.ensures.same ∙ c.self.view_is)) (few_entries c.args.self.now c.requires.gate)

@@ -9,9 +9,6 @@ use Rattle.nb_closing.specs.Ties.{all_ties}
 use Rattle.nb_core.proofs.Disposing.{scene_disposed}
 use Rattle.nb_core.proofs.calls.Core.leaving_all.Goals as goal
 
-pub plan-requires-clause-ties : goal.plan-requires-clause-ties
-plan-requires-clause-ties c = c.self.invariant.1 ∙ ap all_ties (sym c.sheet.ensures.value)
-
 pub returns-clause-plans : goal.returns-clause-plans
 returns-clause-plans c editor =
     let h : History = c.self.inside.machine.history in

@@ -6,9 +6,6 @@ use Rattle.nb_history.specs.History.{History, standing}
 use Rattle.nb_core.proofs.Admitted.{late_taken, keeps_as, kept_after, gains_entry}
 use Rattle.nb_core.proofs.calls.Core.settle_late.Goals as goal
 
-pub invariant_of-self : goal.invariant_of-self
-invariant_of-self c = keeps_as c.self.inside.machine.history c.reserve.new.self.history c.self.inside.closer (sym c.reserve.ensures.same) c.self.invariant
-
 pub invariant_of-self-2 : goal.invariant_of-self-2
 invariant_of-self-2 c =
     kept_after c.self.inside.machine.history c.args.self.now c.reserve.new.self.history c.late.new.self.history c.self.inside.closer c.self.invariant c.self.view_is c.reserve.ensures.same

@@ -10,8 +10,8 @@ pub invariant_of-self : goal.invariant_of-self
 invariant_of-self c =
     let m = c.self.inside in
     let now : standing c.args.self.now.history ≡ leaves m.sheet.sheet m.starts.items m.disposed m.tickets.items m.log.entries = ap (λ (k : Kept). standing k.history) (sym c.self.view_is) ∙ c.self.invariant in
-    let ticket : ℕ = c.len-ticket.result + 1 in
-    let count : ticket ≡ length m.tickets.items + 1 = omega (arith, c.len-ticket.ensures, m.tickets.ok) in
+    let ticket : ℕ = c.len.result + 1 in
+    let count : ticket ≡ length m.tickets.items + 1 = omega (arith, c.len.ensures, m.tickets.ok) in
     stands_plus m.sheet.sheet m.sheet.sheet m.starts.items c.put_start.new.starts.items m.disposed m.disposed m.tickets.items c.push_reserved.new.self.items m.log.entries c.push.new.self.entries c.args.entry
     c.self.invariant c.push.ensures.entries refl
     (step_asked m.sheet.sheet m.starts.items m.disposed m.tickets.items m.log.entries (standing c.args.self.now.history) now c.args.var c.put_start.new.starts.items c.push_reserved.new.self.items c.args.entry c.args.key c.args.cleanups ticket c.number_of-number.result c.take-start.result
