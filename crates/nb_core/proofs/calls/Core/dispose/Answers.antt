@@ -1,8 +1,8 @@
-use Rattle.std.proofs.Common.{◌≡◌, ◌∙◌, ap, sym, refl, ℕ, ◌+◌, length}
+use Rattle.std.proofs.Common.{◌∙◌, ap, refl, ℕ, ◌+◌, length}
 use Rattle.nb_log.specs.declared.event.Event.TheVariants.{Dispose as DisposeEvent}
 use Rattle.nb_log.specs.declared.entry.Entry.TheVariants.{Dispose}
 use Rattle.nb_history.specs.History.{History, standing}
-use Rattle.nb_core.proofs.Admitted.{taken, keeps_as, plans_left, gains_planned, kept_planned}
+use Rattle.nb_core.proofs.Admitted.{taken, plans_left, gains_planned, kept_planned}
 use Rattle.nb_core.proofs.calls.Core.dispose.Goals as goal
 
 pub commit-requires-clause-plans : goal.commit-requires-clause-plans

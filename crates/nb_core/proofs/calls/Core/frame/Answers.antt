@@ -1,8 +1,8 @@
-use Rattle.std.proofs.Common.{◌≡◌, ◌∙◌, ap, sym, subst, refl, ℕ, ◌+◌, ◌<◌, ◌^◌, length}
+use Rattle.std.proofs.Common.{◌∙◌, ap, sym, subst, refl, ℕ, ◌+◌, ◌<◌, ◌^◌, length}
 use Rattle.nb_log.specs.declared.event.Event.TheVariants.{Frame as FrameEvent}
 use Rattle.nb_log.specs.declared.entry.Entry.TheVariants.{Frame}
 use Rattle.nb_history.specs.History.{History, standing}
-use Rattle.nb_core.proofs.Admitted.{taken, few_entries, keeps_as, kept_after, gains_entry}
+use Rattle.nb_core.proofs.Admitted.{taken, few_entries, kept_after, gains_entry}
 use Rattle.nb_core.proofs.calls.Core.frame.Goals as goal
 
 pub frame-requires-clause-few : goal.frame-requires-clause-few

@@ -1,7 +1,7 @@
-use Rattle.std.proofs.Common.{◌≡◌, ◌∙◌, ap, sym, refl, ℕ, ◌+◌, length}
+use Rattle.std.proofs.Common.{◌∙◌, ap, refl, ℕ, ◌+◌, length}
 use Rattle.nb_log.specs.declared.entry.Entry.TheVariants.{Refused}
 use Rattle.nb_history.specs.History.{History}
-use Rattle.nb_core.proofs.Admitted.{keeps_as, kept_after, gains_entry}
+use Rattle.nb_core.proofs.Admitted.{kept_after, gains_entry}
 use Rattle.nb_core.proofs.calls.Core.refuse.Goals as goal
 
 pub invariant_of-self-2 : goal.invariant_of-self-2

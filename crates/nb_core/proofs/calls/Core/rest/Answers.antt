@@ -1,8 +1,8 @@
-use Rattle.std.proofs.Common.{◌≡◌, ◌∙◌, ap, sym, refl, ℕ, ◌+◌, length}
+use Rattle.std.proofs.Common.{◌∙◌, ap, refl, ℕ, ◌+◌, length}
 use Rattle.nb_log.specs.declared.event.Event.TheVariants.{Rest as RestEvent}
 use Rattle.nb_log.specs.declared.entry.Entry.TheVariants.{Rest}
 use Rattle.nb_history.specs.History.{History, standing}
-use Rattle.nb_core.proofs.Admitted.{taken, keeps_as, kept_after, gains_entry}
+use Rattle.nb_core.proofs.Admitted.{taken, kept_after, gains_entry}
 use Rattle.nb_core.proofs.calls.Core.rest.Goals as goal
 
 pub invariant_of-self-2 : goal.invariant_of-self-2

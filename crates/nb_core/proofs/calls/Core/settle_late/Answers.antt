@@ -1,9 +1,9 @@
-use Rattle.std.proofs.Common.{◌≡◌, ◌∙◌, ap, sym, refl, ℕ, ◌+◌, length}
+use Rattle.std.proofs.Common.{◌∙◌, ap, refl, ℕ, ◌+◌, length}
 use Rattle.nb_log.specs.declared.event.Event.TheVariants.{Settle}
 use Rattle.nb_log.specs.declared.event.Target.TheVariants.{Ticket}
 use Rattle.nb_log.specs.declared.entry.Entry.TheVariants.{Late}
 use Rattle.nb_history.specs.History.{History, standing}
-use Rattle.nb_core.proofs.Admitted.{late_taken, keeps_as, kept_after, gains_entry}
+use Rattle.nb_core.proofs.Admitted.{late_taken, kept_after, gains_entry}
 use Rattle.nb_core.proofs.calls.Core.settle_late.Goals as goal
 
 pub invariant_of-self-2 : goal.invariant_of-self-2

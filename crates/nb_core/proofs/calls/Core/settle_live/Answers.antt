@@ -1,4 +1,4 @@
-use Rattle.std.proofs.Common.{◌≡◌, ◌∙◌, ap, sym, refl, ℕ, ◌+◌, length}
+use Rattle.std.proofs.Common.{◌∙◌, ap, sym, refl, ℕ, ◌+◌, length}
 use Rattle.nb_log.specs.declared.event.Event.TheVariants.{Settle}
 use Rattle.nb_log.specs.declared.event.Target.TheVariants.{Ticket}
 use Rattle.nb_log.specs.declared.entry.Entry.TheVariants.{Settled}
@@ -31,9 +31,3 @@ returns-clause-ok c =
       | in-Err w ↦ rw w.result-is tt
     ]
 
-pub returns-clause-err : goal.returns-clause-err
-returns-clause-err c =
-    elim c.match-settled.branch [
-      | in-Ok w ↦ rw w.result-is tt
-      | in-Err w ↦ rw w.result-is (ap (Settle (Ticket c.args.ticket)) w.in-Err.ensures.err.0, w.in-Err.ensures.err.1 ∙ c.self.view_is)
-    ]
