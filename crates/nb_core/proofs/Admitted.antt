@@ -113,9 +113,10 @@ module _ (h now mid new : History) (own : List Ties) (keeps : Keeps h own) (view
   more = done ∙ ap (λ (g : History). plus g e) (same ∙ view)
 
   pub kept_after : Keeps new own
-  kept_after =
-      (stays_closed now new e kept.0 (entry_fits now editor event e kept.0 low is in_time) shut more,
-      kept.1 ∙ ap all_ties (sym (ap (λ (g : History). (standing g).sheet) more ∙ ap (λ (r : Reading). r.sheet) (standing_plus now e) ∙ same_sheet (standing now) e shut)))
+  kept_after = (
+    stays_closed now new e kept.0 (entry_fits now editor event e kept.0 low is in_time) shut more,
+    kept.1 ∙ ap all_ties (sym (ap (λ (g : History). (standing g).sheet) more ∙ ap (λ (r : Reading). r.sheet) (standing_plus now e) ∙ same_sheet (standing now) e shut)),
+  )
 
   pub gains_entry : Gains now (admit (standing now) editor event) new
   gains_entry = subst (λ (x : Entry). Gains now x new) (sym is) (record {
@@ -145,9 +146,10 @@ module _ (h now mid then : History) (view : h ≡ now) (same : mid ≡ h) (e : E
 
     pub kept_planned : Keeps new own
     kept_planned =
-        let kept : Keeps now own = keeps_as h now own view keeps in
-        (gained_closed now new editor event e kept.0 low is in_time planned_entry,
-        kept.1 ∙ ap all_ties (sym (sheet_then now then e steps entered new plans commits ∙ quiet)))
+        let kept : Keeps now own = keeps_as h now own view keeps in (
+          gained_closed now new editor event e kept.0 low is in_time planned_entry,
+          kept.1 ∙ ap all_ties (sym (sheet_then now then e steps entered new plans commits ∙ quiet)),
+        )
 
 -- ---- an edit, done with what closes after it
 

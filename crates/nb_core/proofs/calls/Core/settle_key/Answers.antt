@@ -25,13 +25,13 @@ returns-after-settled-clause-ok c =
     let h : History = c.self.inside.machine.history in
     elim c.match-settled.branch [
       | in-Ok w ↦
-          rw w.result-is
-          (ap (λ (n : ℕ). n + 1) (c.len-place.ensures.value ∙ ap (λ (g : History). length g.log) c.self.view_is),
-          gains_entry h c.args.self.now h c.settled.new.self.history c.self.inside.closer c.self.invariant c.self.view_is refl
-          c.args.editor (Settle (Key c.args.key) c.args.answer) (Settled c.args.editor c.in-Some.ticket c.args.answer) c.requires.low
-          (key_taken (standing c.args.self.now) c.args.editor c.args.key c.args.answer c.in-Some.ticket c.requires.gate
-          (live_key h c.args.self.now c.starts.result.now.items c.tickets.result.now.items c.args.key c.self.view_is c.starts.ensures c.tickets.ensures ∙ sym c.live_of_key.ensures ∙ c.in-Some.is))
-          tt refl w.in-Ok.ensures.ok)
+          rw w.result-is (
+            ap (λ (n : ℕ). n + 1) (c.len-place.ensures.value ∙ ap (λ (g : History). length g.log) c.self.view_is),
+            gains_entry h c.args.self.now h c.settled.new.self.history c.self.inside.closer c.self.invariant c.self.view_is refl
+                c.args.editor (Settle (Key c.args.key) c.args.answer) (Settled c.args.editor c.in-Some.ticket c.args.answer) c.requires.low
+                (key_taken (standing c.args.self.now) c.args.editor c.args.key c.args.answer c.in-Some.ticket c.requires.gate
+                (live_key h c.args.self.now c.starts.result.now.items c.tickets.result.now.items c.args.key c.self.view_is c.starts.ensures c.tickets.ensures ∙ sym c.live_of_key.ensures ∙ c.in-Some.is))
+                tt refl w.in-Ok.ensures.ok,
+          )
       | in-Err w ↦ rw w.result-is tt
     ]
-

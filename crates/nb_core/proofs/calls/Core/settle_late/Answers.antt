@@ -13,8 +13,9 @@ invariant_of-self-2 c =
     (late_taken (standing c.args.self.now) c.args.editor c.args.ticket c.args.answer c.requires.gate c.requires.there c.requires.late) tt refl c.late.ensures.entry
 
 pub returns-clause-ok : goal.returns-clause-ok
-returns-clause-ok c =
-    (ap (λ (n : ℕ). n + 1) (c.len-place.ensures.value ∙ ap (λ (h : History). length h.log) c.self.view_is),
-    gains_entry c.self.inside.machine.history c.args.self.now c.reserve.new.self.history c.late.new.self.history c.self.inside.closer c.self.invariant c.self.view_is c.reserve.ensures.same
-    c.args.editor (Settle (Ticket c.args.ticket) c.args.answer) (Late c.args.editor c.args.ticket) c.requires.low
-    (late_taken (standing c.args.self.now) c.args.editor c.args.ticket c.args.answer c.requires.gate c.requires.there c.requires.late) tt refl c.late.ensures.entry)
+returns-clause-ok c = (
+  ap (λ (n : ℕ). n + 1) (c.len-place.ensures.value ∙ ap (λ (h : History). length h.log) c.self.view_is),
+  gains_entry c.self.inside.machine.history c.args.self.now c.reserve.new.self.history c.late.new.self.history c.self.inside.closer c.self.invariant c.self.view_is c.reserve.ensures.same
+      c.args.editor (Settle (Ticket c.args.ticket) c.args.answer) (Late c.args.editor c.args.ticket) c.requires.low
+      (late_taken (standing c.args.self.now) c.args.editor c.args.ticket c.args.answer c.requires.gate c.requires.there c.requires.late) tt refl c.late.ensures.entry,
+)
