@@ -1,19 +1,10 @@
 -- Tests that agree find the same in lists of numbers, also where one list goes on past all that pass.
-use Rattle.std.proofs.Common.{ℕ, zero, suc, ◌+◌, ◌-◌, ◌≡◌, ◌≤◌, ◌<◌, refl, sym, ◌∙◌, ap, Bool, true, false, cond, List, [], ◌∷◌, length, arith, Option, Some, None, inl, inr}
+use Rattle.std.proofs.Common.{ℕ, zero, suc, ◌+◌, ◌≡◌, ◌≤◌, refl, sym, ◌∙◌, ap, Bool, true, false, cond, List, arith, Some, None}
 use Rattle.std.specs.List.{list_any, range_with_len}
-use Rattle.std.proofs.lemmas.Bool.{cases_eq, false≢true}
-use Rattle.nb_graph.specs.Needs.{has, Needs, all_needed}
-use Rattle.nb_graph.proofs.Reaches.{Within, has_head, has_tail, any_has, has_any, needed_sound, needed_complete}
+use Rattle.nb_graph.specs.Needs.{has, all_needed}
+use Rattle.nb_graph.proofs.Reaches.{Within, any_has, has_any, needed_sound, needed_complete}
 use Rattle.nb_wave.specs.Rules.{first_where as first_by}
 use Rattle.nb_history.specs.Lists.{first_where}
-
-pub has_range : (a n u : ℕ) → a ≤ u → u < a + n → has (range_with_len a n) u ≡ true
-has_range a zero u h k = absurd (omega (arith, h, k))
-has_range a (suc n) u h k =
-    elim (cases_eq a u) [
-      | inl same ↦ has_head a (range_with_len (a + 1) n) u same
-      | inr other ↦ has_tail a (range_with_len (a + 1) n) u (has_range (a + 1) n u (omega (arith, other, h)) (omega (arith, k)))
-    ]
 
 pub both_ways : (a b : Bool) → (a ≡ true → b ≡ true) → (b ≡ true → a ≡ true) → a ≡ b
 both_ways true b f g = sym (f refl)
@@ -25,12 +16,12 @@ pub any_same : (p q : ℕ → Bool) (xs ys : List ℕ) → ((u : ℕ) → p u �
 any_same p q xs ys same among =
     both_ways (list_any p xs) (list_any q ys)
     (λ h.
-        let t : (w : ℕ) × (has xs w ≡ true) × (p w ≡ true) = any_has p xs h in
-        let passes : q t.0 ≡ true = sym (same t.0) ∙ t.2 in
-        has_any q ys t.0 (sym (among t.0 passes) ∙ t.1) passes)
+    let t : (w : ℕ) × (has xs w ≡ true) × (p w ≡ true) = any_has p xs h in
+    let passes : q t.0 ≡ true = sym (same t.0) ∙ t.2 in
+    has_any q ys t.0 (sym (among t.0 passes) ∙ t.1) passes)
     (λ h.
-        let t : (w : ℕ) × (has ys w ≡ true) × (q w ≡ true) = any_has q ys h in
-        has_any p xs t.0 (among t.0 t.2 ∙ t.1) (same t.0 ∙ t.2))
+    let t : (w : ℕ) × (has ys w ≡ true) × (q w ≡ true) = any_has q ys h in
+    has_any p xs t.0 (among t.0 t.2 ∙ t.1) (same t.0 ∙ t.2))
 
 -- what is needed among these numbers is so among those, where both have all direct needs
 pub needed_same : (direct : ℕ → List ℕ) (xs ys : List ℕ) → Within direct xs → Within direct ys → (v u : ℕ) → has (all_needed direct xs v) u ≡ has (all_needed direct ys v) u

@@ -1,13 +1,12 @@
 -- A duplicate needs nothing, so it isn't circular, and what needs nothing is alone.
-use Rattle.std.proofs.Common.{ℕ, ◌≡◌, refl, sym, ◌∙◌, ap, subst, Bool, true, false, cond, List, [], ◌∷◌, map, Option, Some, None}
+use Rattle.std.proofs.Common.{ℕ, ◌≡◌, refl, sym, ◌∙◌, ap, Bool, true, false, cond, List, [], Option, Some, None}
 use Rattle.std.specs.List.{filter_map}
-use Rattle.std.proofs.lemmas.Bool.{cases_Bool, false≢true, false_from_ne_true}
+use Rattle.std.proofs.lemmas.Bool.{false≢true, false_from_ne_true}
 use Rattle.nb_graph.specs.Needs.{has, Needs, at_once, through}
 use Rattle.nb_graph.proofs.Reaches.{needed_sound}
-use Rattle.nb_sheet.specs.Lists.{Name, nth, numbers, from_option}
+use Rattle.nb_sheet.specs.Lists.{nth, numbers, from_option}
 use Rattle.nb_sheet.specs.Sheet.{Sheet}
 use Rattle.nb_sheet.specs.declared.row.VarRow.{VarRow}
-use Rattle.nb_resolve.specs.declared.resolution.Resolution.{Resolution}
 use Rattle.nb_resolve.specs.Names.{is_duplicate_row, inputs_of_row, inputs_of_body, inputs, direct, duplicate, variable_of}
 use Rattle.nb_history.specs.Needs.{circular}
 

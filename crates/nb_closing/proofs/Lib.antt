@@ -1,6 +1,7 @@
 pub mod Agreeing
 pub mod Duplicates
 pub mod Planned
+pub mod Putting
 pub mod SameFootings
 pub mod Sound
 pub mod StartsKept

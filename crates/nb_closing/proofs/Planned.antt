@@ -1,6 +1,5 @@
 -- The steps of a wave that is told of a reading are the steps by which its log closes.
-use Rattle.std.proofs.Common.{ℕ, ◌+◌, ◌≡◌, ◌≤◌, refl, sym, ◌∙◌, ap, subst, true, List, [], ◌∷◌, map, arith, Option, Some, None}
-use Rattle.std.specs.Prelude.{slice_get}
+use Rattle.std.proofs.Common.{ℕ, ◌+◌, ◌≡◌, sym, ◌∙◌, ap, subst, true, List, [], ◌∷◌, map, Some, None}
 use Rattle.nb_graph.specs.Needs.{has}
 use Rattle.nb_sheet.specs.Lists.{numbers}
 use Rattle.nb_wave.specs.declared.footing.Footing.{Footing as Numbered}
@@ -10,10 +9,10 @@ use Rattle.nb_wave.specs.declared.step.Step.TheVariants.{Left, Pending}
 use Rattle.nb_wave.specs.Rules.{from_option, least}
 use Rattle.nb_wave.specs.Rules as by
 use Rattle.nb_wave.specs.Steps.{ended, begun, stepped, next_step, Runs}
-use Rattle.nb_wave.specs.Wave.{unput, kept_of as kept_in}
+use Rattle.nb_wave.specs.Wave.{unput}
 use Rattle.nb_log.specs.declared.entry.Entry.TheVariants.{Left as LeftEntry, Pending as PendingEntry}
 use Rattle.nb_history.specs.Reading.{Reading, owed}
-use Rattle.nb_history.specs.Rules.{footing, leaving, may_start}
+use Rattle.nb_history.specs.Rules.{leaving, may_start}
 use Rattle.nb_history.specs.Log.{after}
 use Rattle.nb_history.specs.Serial.{least_var}
 use Rattle.nb_history.proofs.Closing.{first_some, closing_left, closing_pending, closing_none}

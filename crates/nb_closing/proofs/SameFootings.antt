@@ -1,5 +1,5 @@
 -- Two numbered footings are one where they are as the log has them.
-use Rattle.std.proofs.Common.{ℕ, zero, suc, ◌≡◌, ◌≤◌, refl, sym, ◌∙◌, ap, Bool, true, false, not, ◌&&◌, eqb, List, [], ◌∷◌, arith, Option, Some, None}
+use Rattle.std.proofs.Common.{ℕ, zero, suc, ◌≡◌, ◌≤◌, refl, ◌∙◌, ap, Bool, true, false, not, ◌&&◌, eqb, List, [], ◌∷◌, arith, Option, Some, None}
 use Rattle.std.specs.Prelude.{option_map, IfSome}
 use Rattle.nb_wave.specs.declared.footing.Footing.{Footing as Numbered}
 use Rattle.nb_wave.specs.Footings.{same_numbers as numbers_by, same_base as base_by, same_footing as footing_by}
@@ -53,12 +53,6 @@ module _ (f k : Numbered) (f_marked : IsMarked f) (k_marked : IsMarked k) where
       ∙ ap (λ (b : Bool). same_base (footing_of f) (footing_of k) && b) (numbers_same f.renewals k.renewals)
 
 -- so whether a start is behind or overtaken
-abbrev behind_in : Footing → Option Start → Bool
-behind_in g o = from_option true (λ (s : Start). not (same_footing g s.kept)) o
-
-abbrev overtaken_in : Footing → Option Start → Bool
-overtaken_in g o = from_option false (λ (s : Start). same_base g s.kept && not (same_footing g s.kept)) o
-
 module _ (f : Numbered) (g : Footing) (e : footing_of f ≡ g) (marked : IsMarked f) where
   pub behind_same : (o : Option Start) (k : Option Numbered) → option_map footing_of k ≡ kept_of o → IfSome k IsMarked
       → option_by true (λ (k : Numbered). not (footing_by f k)) k ≡ from_option true (λ (s : Start). not (same_footing g s.kept)) o

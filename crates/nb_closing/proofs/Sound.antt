@@ -1,10 +1,10 @@
 -- Rows that are told of all variables of a sheet are sound, and told of each reading of the scene.
-use Rattle.std.proofs.Common.{ℕ, zero, suc, ◌+◌, ◌≡◌, ◌≢◌, ◌≤◌, ◌<◌, ◌⊎◌, refl, sym, ◌∙◌, ap, subst, Bool, true, false, cond, not, ◌&&◌, eqb, List, [], ◌∷◌, length, map, arith, Option, Some, None, inl, inr}
-use Rattle.std.specs.Prelude.{slice_get, option_map, IfSome}
+use Rattle.std.proofs.Common.{ℕ, zero, suc, ◌+◌, ◌≡◌, ◌≢◌, ◌≤◌, ◌<◌, ◌⊎◌, refl, sym, ◌∙◌, ap, subst, Bool, true, false, cond, eqb, List, [], length, map, arith, Option, Some, None, inl, inr}
+use Rattle.std.specs.Prelude.{slice_get}
 use Rattle.std.proofs.lemmas.Bool.{cases_Bool, cases_lt, false≢true, false_from_ne_true, eqb-true, eq-eqb}
-use Rattle.std.proofs.lemmas.Option.{slice_get_within, slice_get_past}
+use Rattle.std.proofs.lemmas.Option.{slice_get_past}
 use mathlib.Core.Path.{fun_ext}
-use Rattle.nb_graph.specs.Needs.{has, Needs}
+use Rattle.nb_graph.specs.Needs.{Needs}
 use Rattle.nb_graph.proofs.Reaches.{needed_complete}
 use Rattle.nb_sheet.specs.Lists.{nth, numbers, from_option, option_then}
 use Rattle.nb_sheet.specs.Sheet.{Sheet}
@@ -14,19 +14,19 @@ use Rattle.nb_wave.specs.declared.footing.Footing.{Footing as Numbered}
 use Rattle.nb_wave.specs.declared.row.Row.{Row}
 use Rattle.nb_wave.specs.Rules.{from_option as option_by, needs_of, IsSound}
 use Rattle.nb_wave.specs.Wave.{unput}
-use Rattle.nb_history.specs.Needs.{circular, is_used}
+use Rattle.nb_history.specs.Needs.{circular}
 use Rattle.nb_history.specs.Reading.{Reading, Start, Footing, start_of}
 use Rattle.nb_history.specs.Rules.{place_of, input_code, wanted}
 use Rattle.nb_history.proofs.Direct.{direct_within}
 use Rattle.nb_history.proofs.Closing.{Shaped, wanted_has, range_has}
-use Rattle.nb_runs.specs.Footings.{footing_of, IsMarked}
+use Rattle.nb_runs.specs.Footings.{footing_of}
 use Rattle.nb_runs.specs.Starts.{start_in}
 use Rattle.nb_closing.specs.declared.site.Site.{Site}
 use Rattle.nb_closing.specs.declared.site.Moment.{Moment}
 use Rattle.nb_closing.specs.Sites.{site_of, site_in, kept_of, IsScene}
 use Rattle.nb_closing.specs.Told.{footing_at, IsTold, AreTold}
 use Rattle.nb_closing.proofs.Duplicates.{duplicate_direct, alone_open, nothing_inputs, nothing_direct}
-use Rattle.nb_closing.proofs.ToldRows.{sites_of, IsToldOf, Told}
+use Rattle.nb_closing.proofs.ToldRows.{none_there, sites_of, IsToldOf, Told}
 
 -- a number has a row, or none
 number_cases : (v n : ℕ) → ((1 ≤ v) × (v ≤ n)) ⊎ ((v ≡ 0) ⊎ (n < v))
@@ -75,11 +75,6 @@ module _ (s : Sheet) (xs : List (Option Start)) (m : Moment) (rows : List Row) (
         | inr past ↦ outside past (slice_get rows v) refl ∙ sym (nothing_direct s v (nth_past s.rows v past))
       ]
     where
-      none_there : (ys : List Row) (i : ℕ) → i < length ys → slice_get ys i ≡ None → ⊥
-      none_there [] i h k = absurd (omega (arith, h))
-      none_there (x ∷ ys) zero h k = cc
-      none_there (x ∷ ys) (suc i) h k = none_there ys i (omega (arith, h)) k
-
       inside : (1 ≤ v) × (v ≤ length s.rows) → (o : Option Row) → slice_get rows v ≡ o → needs_of rows v ≡ direct s v
       inside is (Some row) e = ap (option_by [] (λ (x : Row). x.needs)) e ∙ (told.told v row is.0 is.1 e).needs
       inside is None e = absurd (none_there rows v (omega (arith, is.1, few, told.size)) e)

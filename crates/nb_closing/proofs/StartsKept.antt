@@ -1,14 +1,14 @@
 -- What starts in a run of steps keeps in the end what it rested on when it started.
-use Rattle.std.proofs.Common.{ℕ, zero, suc, ◌+◌, ◌≡◌, ◌≢◌, ◌≤◌, ◌<◌, refl, sym, ◌∙◌, ap, subst, Bool, true, false, cond, not, ◌&&◌, eqb, List, [], ◌∷◌, length, arith, Option, Some, None}
+use Rattle.std.proofs.Common.{ℕ, zero, suc, ◌+◌, ◌≡◌, ◌≢◌, ◌≤◌, ◌<◌, refl, sym, ◌∙◌, ap, subst, Bool, true, false, cond, not, eqb, List, [], ◌∷◌, length, arith, Option, Some, None}
 use Rattle.std.specs.Prelude.{slice_get, IsSome}
-use Rattle.std.proofs.lemmas.Bool.{false≢true, and_parts, not-true, eq-eqb, eqb-true, cases_Bool}
+use Rattle.std.proofs.lemmas.Bool.{false≢true, and_parts, not-true, eq-eqb}
 use Rattle.nb_wave.specs.declared.footing.Footing.{Footing as Numbered}
 use Rattle.nb_wave.specs.declared.row.Row.{Row}
 use Rattle.nb_wave.specs.declared.step.Step.{Step as WaveStep}
 use Rattle.nb_wave.specs.declared.step.Step.TheVariants.{Left, Pending}
 use Rattle.nb_wave.specs.Rules.{from_option, passes, is_idle, is_leaving, leaving, may_start, least}
-use Rattle.nb_wave.specs.Steps.{ended, begun, stepped, next_of, next_step, Runs, pending_count}
-use Rattle.nb_wave.specs.Wave.{kept_of as kept_in, IsNumber}
+use Rattle.nb_wave.specs.Steps.{ended, begun, stepped, next_of, Runs, pending_count}
+use Rattle.nb_wave.specs.Wave.{kept_of as kept_in}
 use Rattle.nb_wave.proofs.Stepped.{Mild, mild_ended, mild_begun, is_wanted, length_stepped, wanted_stepped, get_stepped_same, get_stepped_other}
 use Rattle.nb_wave.proofs.Calm.{passes_row, due_wanted, may_due}
 use Rattle.nb_wave.proofs.Runs.{IsLeast, least_some}
@@ -94,7 +94,7 @@ starts_at steps rows new place v runs once =
       row = t.0;
       at = t.1;
       kept = kept_stays steps (stepped begun v place rows) new (place + 1) v runs.1 (wanted_stepped begun mild_begun v place rows v ∙ w) (not_later v steps once)
-      ∙ ap (from_option None (λ (row : Row). row.kept)) (get_stepped_same begun mild_begun v place rows t.0 t.1);
+          ∙ ap (from_option None (λ (row : Row). row.kept)) (get_stepped_same begun mild_begun v place rows t.0 t.1);
       low = l.low;
       inside = l.inside;
     }

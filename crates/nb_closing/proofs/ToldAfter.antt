@@ -1,30 +1,29 @@
 -- A wave that is told of a reading is told of the reading after a step, once it has made the step.
-use Rattle.std.proofs.Common.{ℕ, zero, suc, ◌+◌, ◌≡◌, ◌≢◌, ◌≤◌, ◌<◌, refl, sym, ◌∙◌, ap, subst, Bool, true, false, cond, not, ◌&&◌, eqb, List, [], ◌∷◌, length, map, arith, Option, Some, None, inl, inr}
-use Rattle.std.specs.Prelude.{slice_get, nat_le, option_map, IfSome}
-use Rattle.std.proofs.lemmas.Bool.{cases_Bool, cases_eq, ne_eqb, eq-eqb}
+use Rattle.std.proofs.Common.{ℕ, ◌+◌, ◌≡◌, ◌≢◌, ◌<◌, refl, sym, ◌∙◌, ap, subst, Bool, true, false, cond, eqb, List, [], ◌∷◌, length, map, get_or, arith, Option, Some, None, inl, inr}
+use Rattle.std.specs.Prelude.{slice_get, option_map, IfSome}
+use Rattle.std.proofs.lemmas.Bool.{cases_eq, ne_eqb, eq-eqb}
 use Rattle.std.proofs.lemmas.Option.{slice_get_within, slice_get-get_or}
 use Rattle.nb_graph.specs.Needs.{has}
-use Rattle.nb_sheet.specs.Lists.{nth, put, numbers, from_option, option_then}
+use Rattle.nb_sheet.specs.Lists.{nth, numbers}
 use Rattle.nb_sheet.specs.Sheet.{Sheet}
 use Rattle.nb_sheet.specs.declared.row.VarRow.{VarRow}
 use Rattle.nb_resolve.specs.Names.{inputs, direct, duplicate}
-use Rattle.nb_wave.specs.declared.footing.Footing.{Footing as Numbered}
 use Rattle.nb_wave.specs.declared.row.Row.{Row}
 use Rattle.nb_wave.specs.Steps.{renumbered, resting, rested, ended, begun, stepped}
 use Rattle.nb_wave.proofs.Stepped.{renumbered_none, Mild, mild_ended, mild_begun, length_stepped, get_stepped_same, get_stepped_other}
 use Rattle.nb_value.specs.declared.value.Value.{Value}
 use Rattle.nb_log.specs.declared.entry.Entry.TheVariants.{Pending, Left}
 use Rattle.nb_log.specs.Printing.{entry_size}
-use Rattle.nb_history.specs.Needs.{circular, is_used}
+use Rattle.nb_history.specs.Needs.{circular}
 use Rattle.nb_history.specs.Reading.{Reading, Start, Footing, start_of}
 use Rattle.nb_history.specs.Rules.{place_of, input_code, footing}
 use Rattle.nb_history.specs.Log.{with_start, new_start, counted, after}
-use Rattle.nb_history.proofs.Closing.{Shaped, length_put, nth_as_long, number_has}
+use Rattle.nb_history.proofs.Closing.{length_put, nth_as_long, number_has}
 use Rattle.nb_history.proofs.StartsAfter.{start_put_other, start_put}
 use Rattle.nb_runs.specs.Footings.{footing_of, IsMarked}
 use Rattle.nb_closing.specs.declared.site.Site.{Site}
 use Rattle.nb_closing.specs.Sites.{site_of, kept_of}
-use Rattle.nb_closing.specs.Told.{footing_at, IsTold}
+use Rattle.nb_closing.specs.Told.{footing_at}
 use Rattle.nb_closing.proofs.ToldRows.{sites_of, IsToldOf, Told, present_told}
 
 -- ---- numbers of sites that change
@@ -157,17 +156,9 @@ module _ (r : Reading) (rows : List Row) (told : Told r rows) (v n size : ℕ) (
         shaped = length_put r.starts v x ∙ told.shaped;
         each = λ w new at.
             let inside : w < length rows = omega (arith, slice_get_within (stepped f v n rows) w new at, length_stepped f change.mild v n rows) in
-            row_then w new at (Row_at w inside);
+            row_then w new at (get_or rows w new, slice_get-get_or rows w new inside);
       }
     where
-      Row_at : (w : ℕ) → w < length rows → (row : Row) × (slice_get rows w ≡ Some row)
-      Row_at w h = got rows w h
-        where
-          got : (xs : List Row) (i : ℕ) → i < length xs → (row : Row) × (slice_get xs i ≡ Some row)
-          got [] i h = absurd (omega (arith, h))
-          got (y ∷ xs) zero h = (y, refl)
-          got (y ∷ xs) (suc i) h = got xs i (omega (arith, h))
-
       row_then : (w : ℕ) (new : Row) → slice_get (stepped f v n rows) w ≡ Some new → (row : Row) × (slice_get rows w ≡ Some row) → IsToldOf (with_one r v x size) w new
       row_then w new at old =
           elim (cases_eq v w) [

@@ -1,37 +1,33 @@
 -- A wave that is told of all variables of a reading has its next step.
-use Rattle.std.proofs.Common.{ℕ, zero, suc, ◌+◌, ◌-◌, ◌≡◌, ◌≤◌, ◌<◌, refl, sym, ◌∙◌, ap, subst, Bool, true, false, cond, not, ◌&&◌, ◌||◌, eqb, List, [], ◌∷◌, length, map, arith, Option, Some, None, inl, inr}
-use Rattle.std.specs.Prelude.{slice_get, nat_le, option_map, IfSome}
-use Rattle.std.specs.List.{list_any, range_with_len}
-use Rattle.std.proofs.lemmas.Bool.{cases_Bool, cases_lt, false≢true, false_from_ne_true, and_parts, eqb-true, eq-eqb}
-use Rattle.std.proofs.lemmas.Option.{slice_get_within, slice_get_past}
+use Rattle.std.proofs.Common.{ℕ, zero, suc, ◌+◌, ◌-◌, ◌≡◌, ◌≤◌, ◌<◌, refl, sym, ◌∙◌, ap, Bool, true, false, cond, not, ◌&&◌, ◌||◌, List, [], length, map, get_or, arith, Option, Some, None, inl, inr}
+use Rattle.std.specs.Prelude.{slice_get, nat_le, option_map}
+use Rattle.std.specs.List.{list_any}
+use Rattle.std.proofs.lemmas.Bool.{cases_lt, false≢true, false_from_ne_true, and_parts}
+use Rattle.std.proofs.lemmas.Option.{none-some, slice_get_past, slice_get-get_or}
 use mathlib.Core.Path.{fun_ext}
-use Rattle.nb_graph.specs.Needs.{has, Needs, all_needed}
-use Rattle.nb_graph.proofs.Reaches.{Within, needed_complete, needed_within}
-use Rattle.nb_sheet.specs.Lists.{nth, numbers, from_option, option_then, or_else}
-use Rattle.nb_sheet.specs.Sheet.{Sheet}
-use Rattle.nb_sheet.specs.declared.row.VarRow.{VarRow}
+use Rattle.nb_graph.specs.Needs.{has, all_needed}
+use Rattle.nb_graph.proofs.Reaches.{needed_within}
+use Rattle.nb_sheet.specs.Lists.{nth, numbers, from_option}
 use Rattle.nb_resolve.specs.Names.{inputs, direct, duplicate}
 use Rattle.nb_wave.specs.declared.footing.Footing.{Footing as Numbered}
 use Rattle.nb_wave.specs.declared.row.Row.{Row}
-use Rattle.nb_wave.specs.declared.step.Step.{Step as WaveStep}
-use Rattle.nb_wave.specs.declared.step.Step.TheVariants.{Left, Pending}
 use Rattle.nb_wave.specs.Rules.{from_option as option_by, passes, needs_of, numbers as numbers_by, needed as needed_by, least, first_where as first_by, IsSound}
 use Rattle.nb_wave.specs.Rules as by
-use Rattle.nb_wave.specs.Steps.{next_of, next_pending, next_step}
-use Rattle.nb_history.specs.Lists.{first_where}
-use Rattle.nb_history.specs.Needs.{circular, needed, is_used}
+use Rattle.nb_wave.specs.Wave.{unput}
+use Rattle.nb_wave.proofs.Spreads.{has_numbers}
+use Rattle.nb_history.specs.Needs.{circular, needed}
 use Rattle.nb_history.specs.Reading.{Reading, Start, Footing, start_of, is_idle, number, renewal}
-use Rattle.nb_history.specs.Rules.{same_base, same_footing, place_of, input_code, footing, wanted, leaving, is_behind, is_overtaken, is_running, pulls_of, is_pulling, pulls_on, is_held, due, may_start}
+use Rattle.nb_history.specs.Rules.{same_base, same_footing, place_of, input_code, footing, wanted, leaving, is_behind, is_overtaken, is_pulling, pulls_on, is_held, due, may_start}
 use Rattle.nb_history.specs.Serial.{least_var}
 use Rattle.nb_history.proofs.Direct.{direct_within}
 use Rattle.nb_history.proofs.Closing.{Shaped, wanted_has, started_has, leaving_has, due_has, range_has}
-use Rattle.nb_runs.specs.Footings.{footing_of, IsMarked}
+use Rattle.nb_runs.specs.Footings.{footing_of}
 use Rattle.nb_closing.specs.declared.site.Site.{Site}
 use Rattle.nb_closing.specs.Sites.{site_of, kept_of}
 use Rattle.nb_closing.specs.Told.{footing_at, IsTold}
 use Rattle.nb_closing.proofs.SameFootings.{behind_same, overtaken_same}
 use Rattle.nb_closing.proofs.Duplicates.{nothing_direct}
-use Rattle.nb_closing.proofs.Agreeing.{has_range, any_same, needed_same, first_same}
+use Rattle.nb_closing.proofs.Agreeing.{any_same, needed_same, first_same}
 
 -- each variable's site
 abbrev pub sites_of : Reading → ℕ → Site
@@ -133,10 +129,8 @@ module _ (r : Reading) (v : ℕ) (row : Row) (told : IsToldOf r v row) where
 
 -- ---- of the variables
 
-none_there : (rows : List Row) (i : ℕ) → i < length rows → slice_get rows i ≡ None → ⊥
-none_there [] i h k = absurd (omega (arith, h))
-none_there (x ∷ rows) zero h k = cc
-none_there (x ∷ rows) (suc i) h k = none_there rows i (omega (arith, h)) k
+pub none_there : (rows : List Row) (i : ℕ) → i < length rows → slice_get rows i ≡ None → ⊥
+none_there rows i h k = none-some (get_or rows i unput) (sym k ∙ slice_get-get_or rows i unput h)
 
 module _ (r : Reading) (rows : List Row) (told : Told r rows) where
   -- a variable has a row
@@ -213,7 +207,7 @@ module _ (r : Reading) (rows : List Row) (told : Told r rows) where
   among : (v : ℕ) → has (numbers r.sheet.rows) v ≡ true → has (numbers_by rows) v ≡ true
   among v h =
       let t : (1 ≤ v) × (v < 1 + length r.sheet.rows) = range_has 1 (length r.sheet.rows) v h in
-      has_range 1 (length rows - 1) v t.0 (omega (arith, t.1, told.few, told.size))
+      has_numbers rows v t.0 (omega (arith, t.1, told.few, told.size))
 
   needed_all : (v u : ℕ) → has (needed_by rows v) u ≡ has (needed r.sheet v) u
   needed_all v u =

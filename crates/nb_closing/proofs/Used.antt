@@ -114,12 +114,12 @@ roots_more rows i row inside at =
     ∙ ap (λ (n : ℕ). roots_of (take i rows) ++ cond (is_root_row row) (n ∷ []) []) len
 
 pub roots_yes : (rows : List VarRow) (i : ℕ) (row : VarRow) → i < length rows → row ≡ get_or rows i row → is_root_row row ≡ true → roots_of (take i rows) ++ (i + 1) ∷ [] ≡ roots_of (take (i + 1) rows)
-roots_yes rows i row inside at yes =
-    sym (roots_more rows i row inside at ∙ ap (λ (b : Bool). roots_of (take i rows) ++ cond b ((i + 1) ∷ []) []) yes)
+roots_yes rows i row inside at here =
+    sym (roots_more rows i row inside at ∙ ap (λ (b : Bool). roots_of (take i rows) ++ cond b ((i + 1) ∷ []) []) here)
 
 pub roots_no : (rows : List VarRow) (i : ℕ) (row : VarRow) → i < length rows → row ≡ get_or rows i row → is_root_row row ≡ false → roots_of (take i rows) ≡ roots_of (take (i + 1) rows)
-roots_no rows i row inside at no =
-    sym (roots_more rows i row inside at ∙ ap (λ (b : Bool). roots_of (take i rows) ++ cond b ((i + 1) ∷ []) []) no ∙ append-nil (roots_of (take i rows)))
+roots_no rows i row inside at other =
+    sym (roots_more rows i row inside at ∙ ap (λ (b : Bool). roots_of (take i rows) ++ cond b ((i + 1) ∷ []) []) other ∙ append-nil (roots_of (take i rows)))
 
 defined_there : (s : Sheet) (v : ℕ) → is_defined s v ≡ true → has (numbers s.rows) v ≡ true
 defined_there s v h = there (nth s.rows v) refl h

@@ -1,5 +1,5 @@
 -- What closes, worked out before anything changes.
-use Rattle.std.specs.Prelude.{ℕ, ⊤, ◌≡◌, List, [], ◌∷◌, Option, Some, None}
+use Rattle.std.specs.Prelude.{⊤, ◌≡◌, List, [], ◌∷◌, Some, None}
 use Rattle.nb_log.specs.declared.entry.Entry.{Entry}
 use Rattle.nb_log.specs.declared.entry.Entry.TheVariants.{Pending, Left}
 use Rattle.nb_history.specs.Reading.{Reading, owed}

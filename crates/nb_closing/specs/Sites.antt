@@ -1,5 +1,5 @@
 -- What others rest on of a variable's start, and what a reading has of it.
-use Rattle.std.specs.Prelude.{ℕ, ◌+◌, ◌≡◌, Bool, false, ◌&&◌, nat_le, List, length, Option, Some, None, option_map}
+use Rattle.std.specs.Prelude.{ℕ, ◌+◌, ◌≡◌, false, ◌&&◌, nat_le, List, length, Option, Some, None, option_map}
 use Rattle.nb_sheet.specs.Lists.{nth, from_option}
 use Rattle.nb_sheet.specs.Sheet.{Sheet}
 use Rattle.nb_history.specs.Reading.{Reading, Start, Footing, start_of}

@@ -1,5 +1,5 @@
 -- What a wave is told of the variables of a sheet.
-use Rattle.std.specs.Prelude.{ℕ, ⊤, ◌+◌, ◌≡◌, ◌≤◌, ◌<◌, ◌⊎◌, Bool, cond, not, ◌&&◌, List, [], length, map, Option, None, Some, IfSome, IsSome, option_map, slice_get}
+use Rattle.std.specs.Prelude.{ℕ, ⊤, ◌≡◌, ◌≤◌, ◌<◌, ◌⊎◌, Bool, cond, not, ◌&&◌, List, [], length, map, Option, None, Some, IfSome, IsSome, option_map, slice_get}
 use Rattle.nb_sheet.specs.Sheet.{Sheet}
 use Rattle.nb_resolve.specs.Names.{inputs, direct, duplicate}
 use Rattle.nb_wave.specs.declared.footing.Footing.{Footing as Numbered}
@@ -26,10 +26,6 @@ use Rattle.nb_closing.specs.Ties.{Ties}
 -- the mark of a variable, by whether it is circular and whether it is a duplicate
 abbrev pub mark_of : Ties → ℕ
 mark_of t = cond t.is_circular 2 (cond t.is_duplicate 1 0)
-
--- a part of the site of each variable that is needed directly, and none for a circular one
-abbrev pub parts_of : (Site → ℕ) → List Site → Ties → List ℕ
-parts_of part sites t = cond t.is_circular [] (map (λ u. part (site_in sites u)) t.direct)
 
 -- what v rests on where the variables have these sites
 abbrev pub footing_at : Sheet → (ℕ → Site) → ℕ → Footing

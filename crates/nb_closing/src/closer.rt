@@ -4,6 +4,7 @@ ghost use Rattle.nb_closing.specs.Ties.{all_ties};
 ghost use Rattle.nb_closing.specs.Sites.{IsScene};
 ghost use Rattle.nb_closing.specs.Plan.{Plans};
 
+use crate::planning::planned;
 use crate::site::Moment;
 use crate::step::Step;
 use crate::ties::{Ties, tie};
@@ -87,6 +88,15 @@ impl Closer {
         ensures plans { IfOk result (λ steps. (r : Reading) → IsScene r sheet.now.sheet starts.now.items moment.now → Plans r steps.items) }
         ensures same { self.new ≡ self.old }
     {
-        Ok(Vec::new(self.alloc))
+        let steps = planned(
+            self.alloc,
+            &mut self.wave,
+            sheet,
+            &self.ties,
+            starts,
+            moment,
+        );
+        self.wave.undo();
+        steps
     }
 }

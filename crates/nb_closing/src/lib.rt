@@ -2,8 +2,10 @@
 #![tactic(auto)]
 
 mod closer;
+mod planning;
 mod site;
 mod step;
+mod telling;
 mod ties;
 
 pub use closer::Closer;

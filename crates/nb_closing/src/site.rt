@@ -48,5 +48,9 @@ impl Site {
 pub fn sites(alloc: Global, starts: &Vec<Option<Started>>) -> Result<Vec<Site>, AllocError>
     ensures { IfOk result (λ all. all.items ≡ map site_of starts.now.items) }
 {
-    starts.iter().map(Site::of).collect(alloc)
+    let mut all = Vec::new(alloc);
+    for k in 0..starts.len() {
+        all.push(Site::of(&starts[k]))?;
+    }
+    Ok(all)
 }

@@ -1,5 +1,5 @@
 -- A ready variable's next entry, and what closes after it: the history stays closed, and less is to be done.
-use Rattle.std.proofs.Common.{ℕ, ◌≡◌, ◌<◌, ◌≤◌, sym, ◌∙◌, ap, subst, Bool, true, List, [], ◌∷◌, Option}
+use Rattle.std.proofs.Common.{ℕ, ◌≡◌, ◌<◌, ◌≤◌, sym, ◌∙◌, ap, subst, true, List, [], ◌∷◌, Option}
 use Rattle.std.proofs.lemmas.Bool.{eq-eqb}
 use Rattle.nb_sheet.specs.Lists.{from_option}
 use Rattle.nb_log.specs.declared.entry.Entry.{Entry}

@@ -1,6 +1,7 @@
 pub mod Admitted
 pub mod Completes
 pub mod Disposing
+pub mod Edits
 pub mod Few
 pub mod Loads
 pub mod Looks

@@ -1,14 +1,13 @@
 -- A loader's answer where the log rests.
-use Rattle.std.proofs.Common.{ℕ, ◌≡◌, refl, sym, ◌∙◌, ap, subst, Bool, true, false, ◌&&◌, List, [], Option, Some, None}
+use Rattle.std.proofs.Common.{ℕ, ◌≡◌, refl, sym, ◌∙◌, ap, subst, Bool, true, false, not, is_some, ◌&&◌, List, [], Option, Some, None}
 use Rattle.std.specs.Prelude.{nat_le}
 use Rattle.std.proofs.lemmas.Bool.{false≢true}
 use Rattle.std.proofs.lemmas.Option.{none-some}
 use Rattle.nb_value.specs.declared.outcome.Answer.{Answer}
-use Rattle.nb_log.specs.declared.entry.Entry.{Entry}
 use Rattle.nb_log.specs.declared.entry.Entry.TheVariants.{Loaded}
 use Rattle.nb_log.specs.declared.entry.Refusal.{Refusal}
 use Rattle.nb_log.specs.declared.entry.Refusal.TheVariants.{Disposed, LogFull}
-use Rattle.nb_sheet.specs.Lists.{Name, nth, numbers, from_option, or_else}
+use Rattle.nb_sheet.specs.Lists.{nth, numbers, or_else}
 use Rattle.nb_history.specs.Reading.{Reading, Start, Ticket, is_full}
 use Rattle.nb_history.specs.Rules.{ready}
 use Rattle.nb_history.specs.Log.{after, when, is_live, NothingReady, Fits}
@@ -22,7 +21,7 @@ use Rattle.nb_history.proofs.QuietEntries.{stays_quiet}
 use Rattle.nb_history.proofs.Plus.{standing_plus}
 use Rattle.nb_closing.specs.Ties.{Ties, all_ties}
 use Rattle.nb_runs.specs.Tickets.{live_in, live_from_in}
-use Rattle.nb_core.specs.Core.{Gains, MayLoad, gate, live_from, key_of}
+use Rattle.nb_core.specs.Core.{Gains, MayLoad, gate}
 
 -- ---- whether one may come
 
@@ -44,17 +43,26 @@ gate_open r h = go r.disposed (is_full r) h
 gate_shut : (r : Reading) → r.disposed ≡ false → is_full r ≡ false → gate r ≡ None
 gate_shut r a b = ap (λ (x : Bool). or_else (when x Disposed) (when (is_full r) LogFull)) a ∙ ap (λ (x : Bool). when x LogFull) b
 
+pub none_from : (now : History) (ready_now : Option ℕ) → ready_now ≡ least_var (standing now) (ready (standing now)) → MayLoad (standing now) → ready_now ≡ None
+none_from now ready_now is_first may = is_first ∙ least_none (standing now) (least_var (standing now) (ready (standing now))) refl may.0
+
 module _ (h now : History) (view : h ≡ now) (ready_now : Option ℕ) (is_first : ready_now ≡ least_var (standing now) (ready (standing now))) (gate_now : Option Refusal) (is_gate : gate_now ≡ gate (standing h)) where
   pub may_from : ready_now ≡ None → gate_now ≡ None → MayLoad (standing now)
   may_from none open_now =
       let p : ((standing now).disposed ≡ false) × (is_full (standing now) ≡ false) = gate_open (standing now) (ap (λ (g : History). gate (standing g)) (sym view) ∙ sym is_gate ∙ open_now) in
       (nothing_ready now (sym is_first ∙ none), p.0, p.1)
 
-  pub none_from : MayLoad (standing now) → ready_now ≡ None
-  none_from may = is_first ∙ least_none (standing now) (least_var (standing now) (ready (standing now))) refl may.0
-
   pub gate_from : MayLoad (standing now) → gate_now ≡ None
   gate_from may = is_gate ∙ ap (λ (g : History). gate (standing g)) view ∙ gate_shut (standing now) may.1 may.2
+
+-- what a test for none says
+pub none_of : {A : Type 0} (o : Option A) (b : Bool) → is_some o ≡ not b → b ≡ true → o ≡ None
+none_of None b h e = refl
+none_of (Some x) b h e = absurd (false≢true (sym (h ∙ ap (λ (b : Bool). not b) e)))
+
+pub none_is : {A : Type 0} (o : Option A) (b : Bool) → is_some o ≡ not b → o ≡ None → b ≡ true
+none_is o true h e = refl
+none_is o false h e = absurd (false≢true (sym (ap (λ x. is_some x) e) ∙ h))
 
 -- ---- it comes
 
@@ -83,22 +91,8 @@ module _ (h now new : History) (t : ℕ) (a : Answer) (closed : IsClosedHistory 
 
 -- ---- live tickets
 
-module _ (h now : History) (view : h ≡ now) (xs : List (Option Start)) (ts : List Ticket) (starts : xs ≡ (standing h).starts) (tickets : ts ≡ (standing h).tickets) (n : ℕ) where
-  tickets_now : ts ≡ (standing now).tickets
-  tickets_now = tickets ∙ ap (λ (g : History). (standing g).tickets) view
-
-  pub live_now : live_from_in xs ts n ≡ live_from (standing now) n
-  live_now =
-      ap (λ (l : List (Option Start)). live_from_in l ts n) (starts ∙ ap (λ (g : History). (standing g).starts) view)
-      ∙ ap (λ (l : List Ticket). live_from_in (standing now).starts l n) tickets_now
-
-  -- a live ticket is there
-  pub live_there : (t : ℕ) → live_from_in xs ts n ≡ Some t → nth ts t ≡ None → ⊥
-  live_there t found none =
-      let p : (k : Ticket) × (nth ts t ≡ Some k) = number_has ts t (first_some (λ t. nat_le n t && live_in xs ts t) (numbers ts) t found).1 in
-      none-some p.0 (sym none ∙ p.1)
-
-  pub key_now : (t : ℕ) (k : Ticket) → nth ts t ≡ Some k → k.key ≡ key_of (standing now) t
-  key_now t k there =
-      let key : Option Ticket → Name = from_option [] (λ (k : Ticket). k.key) in
-      ap key (sym there) ∙ ap (λ (l : List Ticket). key (nth l t)) tickets_now
+-- one is there
+pub live_there : (xs : List (Option Start)) (ts : List Ticket) (n t : ℕ) → live_from_in xs ts n ≡ Some t → nth ts t ≡ None → ⊥
+live_there xs ts n t found none =
+    let p : (k : Ticket) × (nth ts t ≡ Some k) = number_has ts t (first_some (λ t. nat_le n t && live_in xs ts t) (numbers ts) t found).1 in
+    none-some p.0 (sym none ∙ p.1)

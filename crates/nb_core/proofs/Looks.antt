@@ -1,5 +1,5 @@
 -- What the looks of the core tell, by what the machine and the closer keep.
-use Rattle.std.proofs.Common.{inl, inr, ℕ, zero, suc, ◌≡◌, ◌+◌, ◌<◌, ◌≤◌, refl, sym, ◌∙◌, ap, subst, Bool, true, false, not, ◌&&◌, List, [], map, length, arith, option_map, slice_get, Option, Some, None}
+use Rattle.std.proofs.Common.{inl, inr, ℕ, zero, suc, ◌≡◌, ◌+◌, ◌<◌, ◌≤◌, refl, sym, ◌∙◌, ap, subst, Bool, true, false, not, ◌&&◌, List, [], map, length, arith, option_map, slice_get, Option}
 use Rattle.std.specs.List.{range_with_len}
 use Rattle.std.proofs.lemmas.Bool.{cases_lt, false_from_ne_true}
 use Rattle.std.proofs.lemmas.List.FromFn.{length-range_with_len, get_or-range_with_len}
@@ -72,10 +72,10 @@ used_by_ties s (suc i) =
 
 -- whether v is wanted, by its ties
 module _ (h now : History) (view : h ≡ now) (v : ℕ) (disposed : Bool) where
-  pub not_wanted : disposed ≡ (standing h).disposed → disposed ≡ true → false ≡ wanted (standing now) v
+  pub not_wanted : disposed ≡ (standing h).disposed → disposed ≡ true → not disposed ≡ wanted (standing now) v
   not_wanted is gone =
       let here : (standing now).disposed ≡ true = ap (λ (g : History). (standing g).disposed) (sym view) ∙ sym is ∙ gone in
-      sym (ap (λ (b : Bool). not b && is_used (standing now).sheet v) here)
+      ap (λ (b : Bool). not b) gone ∙ sym (ap (λ (b : Bool). not b && is_used (standing now).sheet v) here)
 
   pub wanted_from : (used : Bool) (ties own : List Ties) → disposed ≡ (standing h).disposed → used ≡ from_option false (λ (t : Ties). t.is_used) (nth ties v)
       → ties ≡ own → own ≡ all_ties (standing h).sheet → disposed ≡ false → used ≡ wanted (standing now) v

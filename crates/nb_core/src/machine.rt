@@ -64,7 +64,7 @@ impl Machine {
         ensures same { self.new.history ≡ self.old.history }
         ensures room { OnOk result (n ≤ self.new.room) }
     {
-        room::reserve(&mut self.log, &mut self.tickets, n)
+        room::make_room(&mut self.log, &mut self.tickets, n)
     }
 
     /// An event is refused.

@@ -1,3 +1,4 @@
 pub mod Notices
 pub mod Over
+pub mod Tied
 pub mod Work

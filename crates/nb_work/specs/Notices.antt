@@ -1,13 +1,14 @@
 -- What the log has of work that is done, and what becomes of the start.
-use Rattle.std.specs.Prelude.{ℕ, ◌≡◌, Bool, List}
+use Rattle.std.specs.Prelude.{ℕ, ◌≡◌, ◌&&◌, Bool, List}
 use Rattle.nb_value.specs.declared.value.Value.{Value}
 use Rattle.nb_value.specs.declared.outcome.Outcome.{Outcome}
 use Rattle.nb_value.specs.declared.outcome.Outcome.TheVariants.{Value as Shows, Error as Fails}
 use Rattle.nb_log.specs.declared.entry.Entry.{Entry}
 use Rattle.nb_log.specs.declared.entry.Entry.TheVariants.{Fulfilled, Rejected, Asked, Ended}
 use Rattle.nb_history.specs.Reading.{Reading}
-use Rattle.nb_history.specs.Rules.{next}
-use Rattle.nb_history.specs.Log.{cleanups_now, ends_at_once}
+use Rattle.nb_history.specs.Rules.{next, entry_of}
+use Rattle.nb_history.specs.Log.{cleanups_now, ends_at_once, is_done}
+use Rattle.nb_eval.specs.Evaluation.{Evaluated}
 use Rattle.nb_work.specs.declared.notice.Notice.{Notice}
 use Rattle.nb_work.specs.declared.notice.Notice.TheVariants as notice
 
@@ -32,6 +33,18 @@ abbrev pub EndsRight : Reading → ℕ → Notice → Type 0
 EndsRight r v (notice.Shows x cleanups ends) = ends ≡ ends_at_once r v
 EndsRight r v (notice.Asks key cleanups) = v ≡ v
 EndsRight r v (notice.Ends cleanups) = v ≡ v
+
+-- the same, where this tells whether it ends with the outcome
+abbrev pub EndsBy : Bool → Notice → Type 0
+EndsBy now (notice.Shows x cleanups ends) = ends ≡ now
+EndsBy now (notice.Asks key cleanups) = now ≡ now
+EndsBy now (notice.Ends cleanups) = now ≡ now
+
+-- the notice of an evaluation's end, of a generator or not, and at a first pull or a later one
+pub record IsEnd (generator first : Bool) (e : Evaluated) (n : Notice) : Type 0 where
+  pub entry : (t v : ℕ) → entry_of t v generator first e e.ending ≡ notice_entry t v n
+  pub cleanups : cleanups_of n ≡ e.cleanups
+  pub ends : EndsBy (generator && is_done e.ending) n
 
 -- the notice of v's next entry, and of its cleanups
 pub record IsNotice (r : Reading) (t v : ℕ) (n : Notice) : Type 0 where

@@ -1,4 +1,4 @@
-ghost use Rattle.std.specs.Prelude.{◌≡◌, ◌<◌, ◌≤◌, ◌+◌, ◌^◌, true, length, IfOk, IfErr, OnErr, IsTrue, ◌↔◌};
+ghost use Rattle.std.specs.Prelude.{◌≡◌, ◌<◌, ◌≤◌, ◌+◌, ◌^◌, true, length, IfOk, IfErr, IsTrue, ◌↔◌};
 ghost use Rattle.nb_eval.specs.Work.{IsOf};
 ghost use Rattle.nb_sheet.specs.Lists.{from_option};
 ghost use Rattle.nb_history.specs.History.{standing, plus, IsClosedHistory};

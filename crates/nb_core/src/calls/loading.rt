@@ -1,11 +1,12 @@
 ghost use Rattle.std.specs.Prelude.{◌≡◌, ◌+◌, true, length, IfOk, IfErr, IfSome, IsTrue, ◌↔◌, option_map};
 ghost use Rattle.nb_history.specs.History.{standing};
 ghost use Rattle.nb_history.specs.Log.{is_live};
-ghost use Rattle.nb_core.specs.Core.{Gains, MayLoad, live_from, key_of};
+ghost use Rattle.nb_core.specs.Core.{Gains, MayLoad, live_from as live_from_log, key_of};
 
 use crate::calls::Core;
 use nb_log::Entry;
-use nb_runs::{Ticket, tickets};
+use nb_runs::Ticket;
+use nb_runs::tickets::{live_from, ticket_at};
 use nb_value::{Answer, Text};
 use std::alloc::AllocError;
 
@@ -19,11 +20,12 @@ fn key_in(ticket: &Ticket) -> &Text
 impl Core {
     /// The least live ticket that isn't below a number, with its key. It takes no memory, and costs a look at each ticket.
     pub fn live_ticket(&self, at_least: u64) -> Option<(u64, &Text)>
-        ensures number { option_map (λ p. p.0) result ≡ live_from (standing self.now) at_least }
+        ensures number { option_map (λ p. p.0) result ≡ live_from_log (standing self.now) at_least }
         ensures key { IfSome result (λ p. p.1.now ≡ key_of (standing self.now) p.0) }
     {
-        let live = tickets::live_from(self.machine.starts(), self.machine.tickets(), at_least)?;
-        let ticket = tickets::ticket_at(self.machine.tickets(), live)?;
+        let asked = self.machine.tickets();
+        let live = live_from(self.machine.starts(), asked, at_least)?;
+        let ticket = ticket_at(asked, live)?;
         Some((live, key_in(ticket)))
     }
 

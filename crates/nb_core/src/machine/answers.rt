@@ -38,7 +38,8 @@ fn answer_copied(
 {
     log.reserve(1)?;
     let copy = answer.copy(alloc)?;
-    answer_at(starts, var, copy)
+    answer_at(starts, var, copy)?;
+    Ok(())
 }
 
 impl Machine {

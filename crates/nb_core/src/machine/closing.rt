@@ -19,8 +19,8 @@ impl Machine {
         ensures entry { self.new.history ≡ plus self.old.history (Entry.Left var (owed (standing self.old.history) var)) }
         ensures room { self.old.room ≤ self.new.room + 1 }
     {
-        let start = take(&mut self.starts, var);
-        let disposed = owed_of(self.alloc, start);
+        let left = take(&mut self.starts, var);
+        let disposed = owed_of(self.alloc, left);
         self.log.push(Entry::Left { var, disposed });
     }
 
@@ -33,8 +33,8 @@ impl Machine {
         ensures room { self.old.room ≤ self.new.room + 1 }
     {
         let place = self.log.len() + 1;
-        let start = take(&mut self.starts, var);
-        let disposed = owed_of(self.alloc, start);
+        let last = take(&mut self.starts, var);
+        let disposed = owed_of(self.alloc, last);
         let new = Started::new(self.alloc, place, kept);
         put_start(&mut self.starts, var, Some(new));
         self.log.push(Entry::Pending { var, disposed });

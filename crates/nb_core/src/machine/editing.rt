@@ -8,7 +8,7 @@ ghost use Rattle.nb_core.specs.Core.{Gains};
 ghost use Rattle.nb_core.specs.Stands.{room_of, HasParts};
 
 use crate::machine::Machine;
-use crate::machine::room::reserve;
+use crate::machine::room::make_room;
 use nb_closing::{Closer, Moment, Step, Ties, sites};
 use nb_log::{Entry, Log};
 use nb_runs::{Started, Ticket};
@@ -80,7 +80,7 @@ fn prepare(
         place: log.len() + 2,
     };
     let steps = closer.plan(sheet, starts, &moment)?;
-    reserve(log, tickets, steps.len() + 1)?;
+    make_room(log, tickets, steps.len() + 1)?;
     pad(starts, more);
     Ok(steps)
 }

@@ -17,7 +17,7 @@ loop-i-preserved c =
     let s = c.args.sheet.now.sheet in
     let i = c.loop-i.i in
     let row = c.index-rows-i.result in
-    let own = c.index-ties-i.result in
+    let own : Ties = get_or c.loop-i.ties i c.index-ties-i.result in
     let used = c.is_used-used.result in
     let first : List Ties = all_unmarked s in
     let many : length c.rows-rows.result.now ≡ length s.rows = ap (λ (l : List VarRow). length l) c.rows-rows.ensures.value in
@@ -26,9 +26,9 @@ loop-i-preserved c =
     let up_to : i + 1 ≤ length s.rows = omega (arith, inside) in
     let at : row ≡ get_or s.rows i row = c.index-rows-i.is ∙ ap (λ (l : List VarRow). get_or l i row) c.rows-rows.ensures.value in
     let was : own ≡ unmarked_ties s (i + 1) =
-    c.index-ties-i.is ∙ ap (λ (l : List Ties). get_or l i own) c.loop-i.invariant
-    ∙ partly_at (ties_of s) i first own within
-    ∙ get_or-map-range_with_len (unmarked_ties s) 1 (length s.rows) i (i + 1) own inside (omega arith) in
+    ap (λ (l : List Ties). get_or l i c.index-ties-i.result) c.loop-i.invariant
+    ∙ partly_at (ties_of s) i first c.index-ties-i.result within
+    ∙ get_or-map-range_with_len (unmarked_ties s) 1 (length s.rows) i (i + 1) c.index-ties-i.result inside (omega arith) in
     let tells_used : used ≡ is_used s (i + 1) =
     c.is_used-used.ensures ∙ ap (λ (b : Bool). b && get_or c.args.reached.now (i + 1) false) (defined_at s i row inside at)
     ∙ used_at s c.args.reached.now (i + 1) c.requires.reached up_to in

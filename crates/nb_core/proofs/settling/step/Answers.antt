@@ -1,4 +1,4 @@
-use Rattle.std.proofs.Common.{sym, ◌∙◌, subst}
+use Rattle.std.proofs.Common.{subst}
 use Rattle.nb_eval.specs.Work.{IsOf}
 use Rattle.nb_eval.specs.declared.work.Work.{Work}
 use Rattle.nb_core.proofs.Completes.{places_gains, less_to_do}

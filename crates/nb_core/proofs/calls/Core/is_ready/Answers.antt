@@ -3,7 +3,7 @@ use Rattle.nb_core.proofs.Looks.{over, tied}
 use Rattle.nb_core.proofs.calls.Core.is_ready.Goals as goal
 
 pub is_ready-requires : goal.is_ready-requires
-is_ready-requires c = tied c.self.inside.machine.history c.sheet.result.now.sheet c.ties.result.now.items c.self.inside.closer c.sheet.ensures.value c.ties.ensures c.self.invariant.1
+is_ready-requires c = record { ties = tied c.self.inside.machine.history c.sheet.result.now.sheet c.ties.result.now.items c.self.inside.closer c.sheet.ensures.value c.ties.ensures c.self.invariant.1 }
 
 pub returns : goal.returns
 returns c =

@@ -13,3 +13,13 @@ invariant_of-self c = elim c.match-loaded.branch [
   | in-Err w ↦
       core_same c.self.inside.machine.history c.loaded.new.self.history c.self.inside.closer c.self.inside.closer w.in-Err.ensures.err.1 refl c.self.invariant.0 c.self.invariant.1
 ]
+
+pub returns-clause-ok : goal.returns-clause-ok
+returns-clause-ok c = elim c.match-loaded.branch [
+  | in-Ok w ↦
+      rw w.result-is (
+        ap (λ (n : ℕ). n + 1) (c.len-place.ensures.value ∙ ap (λ (h : History). length h.log) c.self.view_is),
+        gains_answer c.self.inside.machine.history c.args.self.now c.loaded.new.self.history c.args.ticket c.args.answer c.self.invariant.0 c.self.view_is c.requires.may c.requires.live w.in-Ok.ensures.ok,
+      )
+  | in-Err w ↦ rw w.result-is tt
+]

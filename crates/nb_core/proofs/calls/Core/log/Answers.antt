@@ -1,5 +1,4 @@
-use Rattle.std.proofs.Common.{◌∙◌, ap, List}
-use Rattle.nb_log.specs.declared.entry.Entry.{Entry}
+use Rattle.std.proofs.Common.{◌∙◌, ap}
 use Rattle.nb_history.specs.History.{History}
 use Rattle.nb_core.proofs.Looks.{closed_now, rests_now}
 use Rattle.nb_core.proofs.calls.Core.log.Goals as goal

@@ -3,7 +3,7 @@ use Rattle.nb_core.proofs.Looks.{over, tied, closed_now, rests_now}
 use Rattle.nb_core.proofs.calls.Core.next_ready.Goals as goal
 
 pub next_ready-requires : goal.next_ready-requires
-next_ready-requires c = tied c.self.inside.machine.history c.sheet.result.now.sheet c.ties.result.now.items c.self.inside.closer c.sheet.ensures.value c.ties.ensures c.self.invariant.1
+next_ready-requires c = record { ties = tied c.self.inside.machine.history c.sheet.result.now.sheet c.ties.result.now.items c.self.inside.closer c.sheet.ensures.value c.ties.ensures c.self.invariant.1 }
 
 pub returns-clause-found : goal.returns-clause-found
 returns-clause-found c =

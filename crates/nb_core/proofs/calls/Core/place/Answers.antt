@@ -1,4 +1,4 @@
-use Rattle.std.proofs.Common.{ℕ, ◌≡◌, ◌+◌, refl, sym, ◌∙◌, ap, subst, arith, length}
+use Rattle.std.proofs.Common.{ℕ, ◌+◌, refl, sym, ◌∙◌, ap, subst, arith, length}
 use Rattle.nb_eval.specs.Work.{IsOf}
 use Rattle.nb_history.specs.History.{History, standing}
 use Rattle.nb_history.specs.Rules.{ready, next}

@@ -3,7 +3,7 @@ use Rattle.nb_core.proofs.Looks.{over, tied}
 use Rattle.nb_core.proofs.calls.Core.segment.Goals as goal
 
 pub work_of-requires : goal.work_of-requires
-work_of-requires c = tied c.self.inside.machine.history c.sheet.result.now.sheet c.ties.result.now.items c.self.inside.closer c.sheet.ensures.value c.ties.ensures c.self.invariant.1
+work_of-requires c = record { ties = tied c.self.inside.machine.history c.sheet.result.now.sheet c.ties.result.now.items c.self.inside.closer c.sheet.ensures.value c.ties.ensures c.self.invariant.1 }
 
 pub returns : goal.returns
 returns c =

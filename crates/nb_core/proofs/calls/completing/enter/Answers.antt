@@ -1,5 +1,4 @@
-use Rattle.std.proofs.Common.{ℕ, ◌+◌, length, sym, ◌∙◌, ap, subst}
-use Rattle.nb_log.specs.declared.entry.Entry.{Entry}
+use Rattle.std.proofs.Common.{◌+◌, length, sym, ◌∙◌, ap, subst}
 use Rattle.nb_history.specs.History.{standing, plus}
 use Rattle.nb_work.specs.Notices.{IsNotice}
 use Rattle.nb_core.proofs.calls.completing.enter.Goals as goal

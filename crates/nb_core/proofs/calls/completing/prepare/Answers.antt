@@ -1,10 +1,6 @@
-use Rattle.std.proofs.Common.{ℕ, ◌≡◌, ◌+◌, sym, ap, subst, arith, List, length}
-use Rattle.nb_log.specs.declared.entry.Entry.{Entry}
+use Rattle.std.proofs.Common.{◌≡◌, sym, ap, arith, List, length}
 use Rattle.nb_history.specs.Reading.{Ticket}
-use Rattle.nb_history.specs.Log.{after}
-use Rattle.nb_history.specs.Rules.{next}
 use Rattle.nb_history.specs.History.{standing}
-use Rattle.nb_closing.specs.Plan.{Plans}
 use Rattle.nb_core.proofs.calls.completing.prepare.Goals as goal
 
 pub steps_after-requires-clause-next : goal.steps_after-requires-clause-next

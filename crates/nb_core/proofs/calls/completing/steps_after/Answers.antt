@@ -1,6 +1,3 @@
-use Rattle.std.proofs.Common.{sym, refl}
-use Rattle.nb_history.specs.Log.{after}
-use Rattle.nb_history.specs.History.{standing}
 use Rattle.nb_core.proofs.Completes.{first_pull_plans}
 use Rattle.nb_core.proofs.calls.completing.steps_after.Goals as goal
 
