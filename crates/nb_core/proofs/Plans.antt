@@ -20,19 +20,11 @@ plan_goes_on h h' s rest all split is plans =
     let then : standing h' ≡ after (standing h) e = ap standing is ∙ standing_plus h e in
     let parts : Plans (standing h) (s ∷ rest) = subst (Plans (standing h)) split plans in (
       ap (λ (r : Reading). plus_all h' (planned r rest)) then
-      ∙ ap (λ (g : History). plus_all g (planned (after (standing h) e) rest)) is
-      ∙ plus_more h e (planned (after (standing h) e) rest)
-      ∙ ap (λ (l : List Step). plus_all h (planned (standing h) l)) (sym split),
+          ∙ ap (λ (g : History). plus_all g (planned (after (standing h) e) rest)) is
+          ∙ plus_more h e (planned (after (standing h) e) rest)
+          ∙ ap (λ (l : List Step). plus_all h (planned (standing h) l)) (sym split),
       subst (λ (r : Reading). Plans r rest) (sym then) parts.2,
     )
-
--- no step is left
-none_more : (xs : List Entry) → xs ++ [] ≡ xs
-none_more [] = refl
-none_more (x ∷ xs) = ap (λ (l : List Entry). x ∷ l) (none_more xs)
-
-pub plan_ends : (h : History) (rest : List Step) → rest ≡ [] → h ≡ plus_all h (planned (standing h) rest)
-plan_ends h rest none = ap (λ (l : List Entry). record h { log = l }) (sym (none_more h.log)) ∙ ap (λ (l : List Step). plus_all h (planned (standing h) l)) (sym none)
 
 -- its entries are what closes
 pub plans_close : (r : Reading) (steps : List Step) → Plans r steps → Closes r (planned r steps)

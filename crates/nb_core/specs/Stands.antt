@@ -26,9 +26,10 @@ leaves sheet starts disposed tickets log =
 abbrev pub Stands : Sheet → List (Option Start) → Bool → List Ticket → List Entry → Type 0
 Stands sheet starts disposed tickets log = reading sheet.builtins log ≡ leaves sheet starts disposed tickets log
 
--- a reading of so many entries has this sheet and these starts, and variables past them are idle
+-- a reading of so many entries has this sheet and a place for the start of each variable: these starts, and none past them
 pub record HasParts (r : Reading) (s : Sheet) (xs : List (Option Start)) (is_disposed : Bool) (n : ℕ) : Type 0 where
   pub sheet : r.sheet ≡ s
+  pub shaped : length r.starts ≡ length r.sheet.rows
   pub starts : (v : ℕ) → start_of r v ≡ start_in xs v
   pub disposed : r.disposed ≡ is_disposed
   pub entries : r.entries ≡ n

@@ -16,6 +16,7 @@ mod notices;
 mod room;
 
 /// The log, with the state that it leaves. Each call adds one entry, whatever entry it is: that it fits is the core's to ask.
+/// Contracts see it as its builtins and log, with how many entries more it takes without more memory.
 #[derive(Drop)]
 pub struct Machine {
     alloc: Global,
@@ -43,7 +44,7 @@ impl Model for Machine {
 }
 
 impl Machine {
-    /// No entry.
+    /// No entry, over at most 65,536 builtins. It fails only without memory.
     pub fn new(alloc: Global, builtins: Pairs<Value>) -> Result<Machine, AllocError>
         requires { length builtins ≤ 65536 }
         ensures { IfOk result (λ machine. machine.history ≡ record { builtins = builtins; log = [] }) }
@@ -59,7 +60,7 @@ impl Machine {
         })
     }
 
-    /// Makes room for more entries.
+    /// Makes room for more entries, and adds none. It fails only without memory.
     pub fn reserve(&mut self, n: usize) -> Result<(), AllocError>
         ensures same { self.new.history ≡ self.old.history }
         ensures room { OnOk result (n ≤ self.new.room) }
@@ -99,7 +100,7 @@ impl Machine {
         self.log.push(Entry::Dispose { editor });
     }
 
-    /// Each generator that waits for a pull is pulled. No start counts its pulls past 32 bits.
+    /// Each generator that waits for a pull is pulled. It costs a look at each start. No start counts its pulls past 32 bits.
     pub fn frame(&mut self, editor: u8)
         requires room { 0 < self.old.room }
         requires few { length self.old.history.log + 1 < 2 ^ 32 }
