@@ -1,5 +1,5 @@
 -- What an event's entry makes of the history that a core keeps, and of its ties.
-use Rattle.std.proofs.Common.{ℕ, ◌≡◌, ◌+◌, ◌<◌, ◌≤◌, ◌^◌, arith, refl, sym, ◌∙◌, ap, subst, Bool, true, false, cond, List, [], ◌∷◌, length, Option, Some, None, option_map}
+use Rattle.std.proofs.Common.{ℕ, ◌≡◌, ◌+◌, ◌<◌, ◌≤◌, ◌^◌, arith, refl, sym, ◌∙◌, ap, subst, Bool, true, false, cond, List, [], length, Option, Some, None, option_map}
 use Rattle.std.proofs.lemmas.Bool.{false≢true, ltb-false}
 use Rattle.std.proofs.lemmas.Option.{none-some}
 use Rattle.nb_value.specs.declared.outcome.Answer.{Answer}
@@ -12,21 +12,19 @@ use Rattle.nb_log.specs.Refused.{refusal_of}
 use Rattle.nb_log.specs.declared.event.Event.{Event}
 use Rattle.nb_log.specs.declared.event.Event.TheVariants.{Edit as EditEvent, Settle}
 use Rattle.nb_log.specs.declared.event.Target.TheVariants.{Ticket as ByTicket, Key as ByKey}
-use Rattle.nb_log.specs.declared.entry.Refusal.{Refusal}
 use Rattle.nb_log.specs.declared.entry.Refusal.TheVariants.{Disposed, LogFull, NoAsk}
 use Rattle.nb_log.specs.declared.entry.Entry.{Entry}
-use Rattle.nb_log.specs.declared.entry.Entry.TheVariants.{Edit, Frame, Settled, Late, Loaded, Refused, Rest, Dispose, Pending, Fulfilled, Rejected, Asked, Ended, Left}
+use Rattle.nb_log.specs.declared.entry.Entry.TheVariants.{Edit, Frame, Settled, Late, Loaded, Refused, Rest}
 use Rattle.nb_history.specs.Reading.{Reading, Start, Ticket, is_full}
 use Rattle.nb_history.specs.Log.{after, admit, admitted, event_refusal, ticket_refusal, is_live, live_of_key, when, Fits}
-use Rattle.nb_history.specs.Serial.{Closes}
 use Rattle.nb_history.specs.Quiet.{may_open}
 use Rattle.nb_history.specs.History.{History, standing, plus, plus_all, IsClosedHistory}
-use Rattle.nb_history.proofs.Admits.{admit_refused, admit_taken, refused_to_all, own_refusal}
+use Rattle.nb_history.proofs.Admits.{admit_taken, own_refusal}
 use Rattle.nb_history.proofs.Plus.{standing_plus, reading_size, entries_within}
 use Rattle.nb_history.proofs.Gains.{nothing_closes, stays_closed, gains_closed_by}
 use Rattle.nb_history.proofs.QuietEntries.{stays_quiet}
 use Rattle.nb_history.proofs.Serials.{RestsFor, event_fits}
-use Rattle.nb_runs.specs.Tickets.{live_in, live_of_key_in}
+use Rattle.nb_runs.specs.Tickets.{live_of_key_in}
 use Rattle.nb_closing.specs.declared.step.Step.{Step}
 use Rattle.nb_closing.specs.Plan.{Plans, planned}
 use Rattle.nb_closing.specs.Ties.{Ties, all_ties}
@@ -34,12 +32,6 @@ use Rattle.nb_core.specs.Core.{Gains, gate}
 use Rattle.nb_core.proofs.Plans.{plan_then, gains_plan, sheet_then}
 
 -- ---- which entry it is
-
-pub gate_refuses : (r : Reading) (editor : ℕ) (event : Event) (reason : Refusal) → gate r ≡ Some reason → admit r editor event ≡ Refused editor reason event
-gate_refuses r editor event reason h = admit_refused r editor event reason (refused_to_all r event reason h)
-
-pub own_refuses : (r : Reading) (editor : ℕ) (event : Event) (reason : Refusal) → gate r ≡ None → event_refusal r event ≡ Some reason → admit r editor event ≡ Refused editor reason event
-own_refuses r editor event reason ungated h = admit_refused r editor event reason (own_refusal r event ungated ∙ h)
 
 pub taken : (r : Reading) (editor : ℕ) (event : Event) → gate r ≡ None → event_refusal r event ≡ None → admit r editor event ≡ admitted r editor event
 taken r editor event ungated h = admit_taken r editor event (own_refusal r event ungated ∙ h)
@@ -56,25 +48,14 @@ module _ (r : Reading) (editor t : ℕ) (a : Answer) (ungated : gate r ≡ None)
   late_taken late = taken r editor by_ticket ungated there ∙ ap (λ (b : Bool). cond b (Settled editor t a) (Late editor t)) late
 
 -- and one by its key
-module _ (r : Reading) (editor : ℕ) (key : Name) (a : Answer) (ungated : gate r ≡ None) where
-  abbrev by_key : Event
-  by_key = Settle (ByKey key) a
+pub key_taken : (r : Reading) (editor : ℕ) (key : Name) (a : Answer) (t : ℕ) → gate r ≡ None → live_of_key r key ≡ Some t → admit r editor (Settle (ByKey key) a) ≡ Settled editor t a
+key_taken r editor key a t ungated some =
+    taken r editor (Settle (ByKey key) a) ungated (ap (λ (o : Option ℕ). from_option (Some NoAsk) (λ t. None) o) some)
+    ∙ ap (λ (o : Option ℕ). Settled editor (from_option 0 (λ t. t) o) a) some
 
-  pub no_ask : live_of_key r key ≡ None → admit r editor by_key ≡ Refused editor NoAsk by_key
-  no_ask none = own_refuses r editor by_key NoAsk ungated (ap (λ (o : Option ℕ). from_option (Some NoAsk) (λ t. None) o) none)
-
-  pub key_taken : (t : ℕ) → live_of_key r key ≡ Some t → admit r editor by_key ≡ Settled editor t a
-  key_taken t some =
-      taken r editor by_key ungated (ap (λ (o : Option ℕ). from_option (Some NoAsk) (λ t. None) o) some)
-      ∙ ap (λ (o : Option ℕ). Settled editor (from_option 0 (λ t. t) o) a) some
-
--- an edit, by the first reason against it
-module _ (r : Reading) (editor : ℕ) (edit : SheetEdit) (ungated : gate r ≡ None) where
-  pub edit_refused : (reason : Against) → refusal r.sheet edit ≡ Some reason → admit r editor (EditEvent edit) ≡ Refused editor (refusal_of reason) (EditEvent edit)
-  edit_refused reason h = own_refuses r editor (EditEvent edit) (refusal_of reason) ungated (ap (λ (o : Option Against). option_map refusal_of o) h)
-
-  pub edit_taken : refusal r.sheet edit ≡ None → admit r editor (EditEvent edit) ≡ Edit editor edit
-  edit_taken h = taken r editor (EditEvent edit) ungated (ap (λ (o : Option Against). option_map refusal_of o) h)
+-- an edit
+pub edit_taken : (r : Reading) (editor : ℕ) (edit : SheetEdit) → gate r ≡ None → refusal r.sheet edit ≡ None → admit r editor (EditEvent edit) ≡ Edit editor edit
+edit_taken r editor edit ungated h = taken r editor (EditEvent edit) ungated (ap (λ (o : Option Against). option_map refusal_of o) h)
 
 -- ---- a log that isn't full is short
 
@@ -132,9 +113,10 @@ module _ (h now mid new : History) (own : List Ties) (keeps : Keeps h own) (view
   more = done ∙ ap (λ (g : History). plus g e) (same ∙ view)
 
   pub kept_after : Keeps new own
-  kept_after =
-      (stays_closed now new e kept.0 (entry_fits now editor event e kept.0 low is in_time) shut more,
-      kept.1 ∙ ap all_ties (sym (ap (λ (g : History). (standing g).sheet) more ∙ ap (λ (r : Reading). r.sheet) (standing_plus now e) ∙ same_sheet (standing now) e shut)))
+  kept_after = (
+    stays_closed now new e kept.0 (entry_fits now editor event e kept.0 low is in_time) shut more,
+    kept.1 ∙ ap all_ties (sym (ap (λ (g : History). (standing g).sheet) more ∙ ap (λ (r : Reading). r.sheet) (standing_plus now e) ∙ same_sheet (standing now) e shut)),
+  )
 
   pub gains_entry : Gains now (admit (standing now) editor event) new
   gains_entry = subst (λ (x : Entry). Gains now x new) (sym is) (record {
@@ -164,9 +146,10 @@ module _ (h now mid then : History) (view : h ≡ now) (same : mid ≡ h) (e : E
 
     pub kept_planned : Keeps new own
     kept_planned =
-        let kept : Keeps now own = keeps_as h now own view keeps in
-        (gained_closed now new editor event e kept.0 low is in_time planned_entry,
-        kept.1 ∙ ap all_ties (sym (sheet_then now then e steps entered new plans commits ∙ quiet)))
+        let kept : Keeps now own = keeps_as h now own view keeps in (
+          gained_closed now new editor event e kept.0 low is in_time planned_entry,
+          kept.1 ∙ ap all_ties (sym (sheet_then now then e steps entered new plans commits ∙ quiet)),
+        )
 
 -- ---- an edit, done with what closes after it
 
@@ -181,17 +164,11 @@ module _ (h now new : History) (editor : ℕ) (edit : SheetEdit) (low : editor <
   pub gains_edited : Gains now (admit (standing now) editor (EditEvent edit)) new
   gains_edited = subst (λ (x : History). Gains x (admit (standing x) editor (EditEvent edit)) new) view (subst (λ (e : Entry). Gains h e new) (sym edit_entry) g)
 
--- ---- looks at the machine's tickets
+-- ---- a look at the machine's tickets
 
-module _ (h now : History) (starts : List (Option Start)) (tickets : List Ticket) where
-  pub live_ticket : (t : ℕ) → h ≡ now → starts ≡ (standing h).starts → tickets ≡ (standing h).tickets → is_live (standing now) t ≡ live_in starts tickets t
-  live_ticket t view own asked =
-      ap (λ (g : History). is_live (standing g) t) (sym view)
-      ∙ ap (λ (xs : List (Option Start)). live_in xs (standing h).tickets t) (sym own)
-      ∙ ap (λ (ks : List Ticket). live_in starts ks t) (sym asked)
-
-  pub live_key : (key : Name) → h ≡ now → starts ≡ (standing h).starts → tickets ≡ (standing h).tickets → live_of_key (standing now) key ≡ live_of_key_in starts tickets key
-  live_key key view own asked =
-      ap (λ (g : History). live_of_key (standing g) key) (sym view)
-      ∙ ap (λ (xs : List (Option Start)). live_of_key_in xs (standing h).tickets key) (sym own)
-      ∙ ap (λ (ks : List Ticket). live_of_key_in starts ks key) (sym asked)
+pub live_key : (h now : History) (starts : List (Option Start)) (tickets : List Ticket) (key : Name) → h ≡ now → starts ≡ (standing h).starts → tickets ≡ (standing h).tickets
+    → live_of_key (standing now) key ≡ live_of_key_in starts tickets key
+live_key h now starts tickets key view own asked =
+    ap (λ (g : History). live_of_key (standing g) key) (sym view)
+    ∙ ap (λ (xs : List (Option Start)). live_of_key_in xs (standing h).tickets key) (sym own)
+    ∙ ap (λ (ks : List Ticket). live_of_key_in starts ks key) (sym asked)

@@ -1,6 +1,5 @@
 -- What a dispose leaves, as one sees it who works out what closes.
-use Rattle.std.proofs.Common.{ℕ, ◌≡◌, ◌+◌, arith, refl, sym, ◌∙◌, ap, true, List, map, length, Option}
-use Rattle.nb_sheet.specs.Lists.{option_then, nth}
+use Rattle.std.proofs.Common.{ℕ, ◌≡◌, ◌+◌, arith, sym, ◌∙◌, ap, true, List, map, length, Option}
 use Rattle.nb_sheet.specs.Sheet.{Sheet}
 use Rattle.nb_log.specs.declared.entry.Entry.TheVariants.{Dispose}
 use Rattle.nb_history.specs.Reading.{Reading, Start, start_of}

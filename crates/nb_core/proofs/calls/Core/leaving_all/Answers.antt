@@ -1,11 +1,10 @@
-use Rattle.std.proofs.Common.{◌≡◌, ◌∙◌, ap, sym, refl, ℕ, ◌+◌, length, List, map, Option, subst}
+use Rattle.std.proofs.Common.{◌∙◌, ap, sym, refl, ℕ, ◌+◌, List, map, Option, subst}
 use Rattle.nb_log.specs.declared.entry.Entry.TheVariants.{Dispose}
 use Rattle.nb_history.specs.Reading.{Start}
 use Rattle.nb_history.specs.Log.{after}
 use Rattle.nb_history.specs.History.{History, standing}
 use Rattle.nb_closing.specs.Plan.{Plans}
 use Rattle.nb_closing.specs.Sites.{site_of}
-use Rattle.nb_closing.specs.Ties.{all_ties}
 use Rattle.nb_core.proofs.Disposing.{scene_disposed}
 use Rattle.nb_core.proofs.calls.Core.leaving_all.Goals as goal
 

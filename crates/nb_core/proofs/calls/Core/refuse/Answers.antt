@@ -1,7 +1,7 @@
-use Rattle.std.proofs.Common.{◌≡◌, ◌∙◌, ap, sym, refl, ℕ, ◌+◌, length}
+use Rattle.std.proofs.Common.{◌∙◌, ap, refl, ℕ, ◌+◌, length}
 use Rattle.nb_log.specs.declared.entry.Entry.TheVariants.{Refused}
 use Rattle.nb_history.specs.History.{History}
-use Rattle.nb_core.proofs.Admitted.{keeps_as, kept_after, gains_entry}
+use Rattle.nb_core.proofs.Admitted.{kept_after, gains_entry}
 use Rattle.nb_core.proofs.calls.Core.refuse.Goals as goal
 
 pub invariant_of-self-2 : goal.invariant_of-self-2
@@ -10,7 +10,8 @@ invariant_of-self-2 c =
     c.args.editor c.args.event (Refused c.args.editor c.args.reason c.args.event) c.requires.low c.requires.refused tt refl c.refuse.ensures.entry
 
 pub returns-clause-ok : goal.returns-clause-ok
-returns-clause-ok c =
-    (ap (λ (n : ℕ). n + 1) (c.len-place.ensures.value ∙ ap (λ (h : History). length h.log) c.self.view_is),
-    gains_entry c.self.inside.machine.history c.args.self.now c.reserve.new.self.history c.refuse.new.self.history c.self.inside.closer c.self.invariant c.self.view_is c.reserve.ensures.same
-    c.args.editor c.args.event (Refused c.args.editor c.args.reason c.args.event) c.requires.low c.requires.refused tt refl c.refuse.ensures.entry)
+returns-clause-ok c = (
+  ap (λ (n : ℕ). n + 1) (c.len-place.ensures.value ∙ ap (λ (h : History). length h.log) c.self.view_is),
+  gains_entry c.self.inside.machine.history c.args.self.now c.reserve.new.self.history c.refuse.new.self.history c.self.inside.closer c.self.invariant c.self.view_is c.reserve.ensures.same
+      c.args.editor c.args.event (Refused c.args.editor c.args.reason c.args.event) c.requires.low c.requires.refused tt refl c.refuse.ensures.entry,
+)

@@ -1,8 +1,8 @@
-use Rattle.std.proofs.Common.{◌≡◌, ◌∙◌, ap, sym, refl, ℕ, ◌+◌, length}
+use Rattle.std.proofs.Common.{◌∙◌, ap, refl, ℕ, ◌+◌, length}
 use Rattle.nb_log.specs.declared.event.Event.TheVariants.{Rest as RestEvent}
 use Rattle.nb_log.specs.declared.entry.Entry.TheVariants.{Rest}
 use Rattle.nb_history.specs.History.{History, standing}
-use Rattle.nb_core.proofs.Admitted.{taken, keeps_as, kept_after, gains_entry}
+use Rattle.nb_core.proofs.Admitted.{taken, kept_after, gains_entry}
 use Rattle.nb_core.proofs.calls.Core.rest.Goals as goal
 
 pub invariant_of-self-2 : goal.invariant_of-self-2
@@ -11,7 +11,8 @@ invariant_of-self-2 c =
     c.args.editor RestEvent (Rest c.args.editor) c.requires.low (taken (standing c.args.self.now) c.args.editor RestEvent c.requires.gate refl) c.requires.rest refl c.rest.ensures.entry
 
 pub returns-clause-ok : goal.returns-clause-ok
-returns-clause-ok c =
-    (ap (λ (n : ℕ). n + 1) (c.len-place.ensures.value ∙ ap (λ (h : History). length h.log) c.self.view_is),
-    gains_entry c.self.inside.machine.history c.args.self.now c.reserve.new.self.history c.rest.new.self.history c.self.inside.closer c.self.invariant c.self.view_is c.reserve.ensures.same
-    c.args.editor RestEvent (Rest c.args.editor) c.requires.low (taken (standing c.args.self.now) c.args.editor RestEvent c.requires.gate refl) c.requires.rest refl c.rest.ensures.entry)
+returns-clause-ok c = (
+  ap (λ (n : ℕ). n + 1) (c.len-place.ensures.value ∙ ap (λ (h : History). length h.log) c.self.view_is),
+  gains_entry c.self.inside.machine.history c.args.self.now c.reserve.new.self.history c.rest.new.self.history c.self.inside.closer c.self.invariant c.self.view_is c.reserve.ensures.same
+      c.args.editor RestEvent (Rest c.args.editor) c.requires.low (taken (standing c.args.self.now) c.args.editor RestEvent c.requires.gate refl) c.requires.rest refl c.rest.ensures.entry,
+)

@@ -1,4 +1,4 @@
-use Rattle.std.proofs.Common.{◌≡◌, ◌∙◌, ap, sym, refl, ℕ, ◌+◌, length}
+use Rattle.std.proofs.Common.{◌∙◌, ap, sym, refl, ℕ, ◌+◌, length}
 use Rattle.nb_log.specs.declared.event.Event.TheVariants.{Settle}
 use Rattle.nb_log.specs.declared.event.Target.TheVariants.{Ticket}
 use Rattle.nb_log.specs.declared.entry.Entry.TheVariants.{Settled}
@@ -23,17 +23,11 @@ returns-clause-ok c =
     let h : History = c.self.inside.machine.history in
     elim c.match-settled.branch [
       | in-Ok w ↦
-          rw w.result-is
-          (ap (λ (n : ℕ). n + 1) (c.len-place.ensures.value ∙ ap (λ (g : History). length g.log) c.self.view_is),
-          gains_entry h c.args.self.now h c.settled.new.self.history c.self.inside.closer c.self.invariant c.self.view_is refl
-          c.args.editor (Settle (Ticket c.args.ticket) c.args.answer) (Settled c.args.editor c.args.ticket c.args.answer) c.requires.low
-          (live_taken (standing c.args.self.now) c.args.editor c.args.ticket c.args.answer c.requires.gate c.requires.there c.requires.live) tt refl w.in-Ok.ensures.ok)
+          rw w.result-is (
+            ap (λ (n : ℕ). n + 1) (c.len-place.ensures.value ∙ ap (λ (g : History). length g.log) c.self.view_is),
+            gains_entry h c.args.self.now h c.settled.new.self.history c.self.inside.closer c.self.invariant c.self.view_is refl
+                c.args.editor (Settle (Ticket c.args.ticket) c.args.answer) (Settled c.args.editor c.args.ticket c.args.answer) c.requires.low
+                (live_taken (standing c.args.self.now) c.args.editor c.args.ticket c.args.answer c.requires.gate c.requires.there c.requires.live) tt refl w.in-Ok.ensures.ok,
+          )
       | in-Err w ↦ rw w.result-is tt
-    ]
-
-pub returns-clause-err : goal.returns-clause-err
-returns-clause-err c =
-    elim c.match-settled.branch [
-      | in-Ok w ↦ rw w.result-is tt
-      | in-Err w ↦ rw w.result-is (ap (Settle (Ticket c.args.ticket)) w.in-Err.ensures.err.0, w.in-Err.ensures.err.1 ∙ c.self.view_is)
     ]
