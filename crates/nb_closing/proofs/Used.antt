@@ -69,12 +69,12 @@ below_none p k (x ∷ xs) u h =
     let later : has (numbers_from (k + 1) p xs) u ≡ false = below_none p (k + 1) xs u (omega arith) in
     elim (cases_Bool (p x)) [
       | inl here ↦ rw here
-        (false_from_ne_true (has (k ∷ numbers_from (k + 1) p xs) u)
-        (λ t.
-        elim (has_cases k (numbers_from (k + 1) p xs) u t) [
-          | inl same ↦ absurd (omega (arith, same))
-          | inr more ↦ false≢true (sym later ∙ more)
-        ]))
+          (false_from_ne_true (has (k ∷ numbers_from (k + 1) p xs) u)
+          (λ t.
+          elim (has_cases k (numbers_from (k + 1) p xs) u t) [
+            | inl same ↦ absurd (omega (arith, same))
+            | inr more ↦ false≢true (sym later ∙ more)
+          ]))
       | inr not_here ↦ rw not_here later
     ]
 
@@ -89,10 +89,10 @@ has_from p k (x ∷ xs) (suc i) u e =
     let later : has (numbers_from (k + 1) p xs) u ≡ from_option false p (slice_get xs i) = has_from p (k + 1) xs i u (omega arith) in
     elim (cases_Bool (p x)) [
       | inl here ↦ rw here
-        (bool_same (has (k ∷ numbers_from (k + 1) p xs) u) (has (numbers_from (k + 1) p xs) u)
-        (λ t. elim (has_cases k (numbers_from (k + 1) p xs) u t) [ inl same ↦ absurd (omega (arith, same)) | inr more ↦ more ])
-        (λ t. has_tail k (numbers_from (k + 1) p xs) u t)
-        ∙ later)
+          (bool_same (has (k ∷ numbers_from (k + 1) p xs) u) (has (numbers_from (k + 1) p xs) u)
+          (λ t. elim (has_cases k (numbers_from (k + 1) p xs) u t) [ inl same ↦ absurd (omega (arith, same)) | inr more ↦ more ])
+          (λ t. has_tail k (numbers_from (k + 1) p xs) u t)
+          ∙ later)
       | inr not_here ↦ rw not_here later
     ]
 
