@@ -1,6 +1,5 @@
 //! A program that holds a machine of its own: it adds cells, answers what they fetch, and reads what they show.
 use crate::machine::add;
-
 use nb_core::{Core, Shown, settle};
 use nb_log::{Event, Target};
 use nb_value::{Answer, Pairs, Value};
