@@ -1,0 +1,9 @@
+//! The machine through the public calls of `nb_core`. There is nothing here to run but tests.
+//!
+//! They stand apart from what they test, since a crate that holds tests is proved once more with them.
+#![tactic(auto)]
+
+#[cfg(test)]
+mod embedding;
+#[cfg(test)]
+mod machine;
