@@ -6,10 +6,10 @@ use Rattle.nb_wave.specs.declared.footing.Footing.{Footing as Numbered}
 use Rattle.nb_wave.specs.declared.row.Row.{Row}
 use Rattle.nb_wave.specs.declared.step.Step.{Step as WaveStep}
 use Rattle.nb_wave.specs.declared.step.Step.TheVariants.{Left, Pending}
-use Rattle.nb_wave.specs.Rules.{from_option, passes, is_idle, is_leaving, leaving, may_start, least}
+use Rattle.nb_wave.specs.Rules.{from_option, passes, is_idle, is_leaving, is_wanted, leaving, may_start, least}
 use Rattle.nb_wave.specs.Steps.{ended, begun, stepped, next_of, Runs, pending_count}
 use Rattle.nb_wave.specs.Wave.{kept_of as kept_in}
-use Rattle.nb_wave.proofs.Stepped.{Mild, mild_ended, mild_begun, is_wanted, length_stepped, wanted_stepped, get_stepped_same, get_stepped_other}
+use Rattle.nb_wave.proofs.Stepped.{Mild, mild_ended, mild_begun, length_stepped, wanted_stepped, get_stepped_same, get_stepped_other}
 use Rattle.nb_wave.proofs.Calm.{passes_row, due_wanted, may_due}
 use Rattle.nb_wave.proofs.Runs.{IsLeast, least_some}
 use Rattle.nb_closing.specs.Told.{StartsIn}
