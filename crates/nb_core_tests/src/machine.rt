@@ -10,7 +10,7 @@ use std::alloc::Global;
 use std::mem::drop;
 use std::test::Fail;
 
-pub fn cell(alloc: Global, text: &str) -> Result<Cell, Fail> {
+pub(crate) fn cell(alloc: Global, text: &str) -> Result<Cell, Fail> {
     match parse_cell(alloc, text) {
         Ok(cell) => Ok(cell),
         Err(_) => Err("refused".into()),
@@ -18,7 +18,7 @@ pub fn cell(alloc: Global, text: &str) -> Result<Cell, Fail> {
 }
 
 // The place of an edit's entry.
-pub fn edit(core: &mut Core, edit: Edit) -> Result<u64, Fail> {
+pub(crate) fn edit(core: &mut Core, edit: Edit) -> Result<u64, Fail> {
     match core.event(0, Event::Edit(edit)) {
         Ok(place) => Ok(place),
         Err(back) => {
@@ -29,7 +29,7 @@ pub fn edit(core: &mut Core, edit: Edit) -> Result<u64, Fail> {
 }
 
 // The place of the entry of an added cell.
-pub fn add(alloc: Global, core: &mut Core, text: &str) -> Result<u64, Fail> {
+pub(crate) fn add(alloc: Global, core: &mut Core, text: &str) -> Result<u64, Fail> {
     let cell = cell(alloc, text)?;
     edit(
         core,
