@@ -85,7 +85,7 @@ bad_line line r = reason_line (decimal line) (reason_word r) (reason_key r)
 abbrev pub note : Status → List ℕ
 note Ok = []
 note Memory = codes "notebook: out of memory\n"
-note Usage = codes "notebook: usage: notebook run [FILE] | workers N [FILE] | make N SEED\n"
+note Usage = codes "notebook: usage: notebook run [FILE] | workers N [FILE] | make N SEED | upgrade FILE\n"
 note (BadInput line r) = bad_line line r
 note ReadFault = codes "notebook: read fault\n"
 note WriteFault = codes "notebook: write fault\n"

@@ -21,7 +21,7 @@ pub fn tell<E: Sink>(notes: &mut E, status: &Status) -> Result<(), Failed>
         Status::Memory => write_whole(notes, b"notebook: out of memory\n"),
         Status::Usage => write_whole(
             notes,
-            b"notebook: usage: notebook run [FILE] | workers N [FILE] | make N SEED\n",
+            b"notebook: usage: notebook run [FILE] | workers N [FILE] | make N SEED | upgrade FILE\n",
         ),
         Status::BadInput(line, reason) => tell_bad_line(notes, *line, reason),
         Status::ReadFault => write_whole(notes, b"notebook: read fault\n"),

@@ -15,9 +15,14 @@ use Rattle.nb_work.specs.Over.{IsOver}
 use Rattle.nb_work.specs.Tied.{over, ties_in, footing_by, has_inputs}
 use Rattle.nb_work.proofs.TiesAt.{ties_read}
 
-and_false : (a b : Bool) → (a && false && b) ≡ false
-and_false true b = refl
-and_false false b = refl
+and_true : (b : Bool) → (b && true) ≡ b
+and_true true = refl
+and_true false = refl
+
+none_of : (a b : Bool) → (a && b && false) ≡ false
+none_of true true = refl
+none_of true false = refl
+none_of false b = refl
 
 not_not : (b : Bool) → not (not b) ≡ b
 not_not true = refl
@@ -66,15 +71,16 @@ module _ (r : Reading) (s : Sheet) (starts : List (Option Start)) (v : ℕ) (h :
         ∙ ap (λ (z : Bool). x.running && not (is_behind r v) && z) (q ∙ inputs_now)
         ∙ sym (ap (λ (o : Option Start). running_by o && not (is_behind r v) && all_shown) (start_now (Some x) (sym there)))
 
-    pub ready_rests : (b p : Bool) → b ≡ same_footing (footing_by (ties_in ties v) starts (place_of s v)) x.kept → p ≡ has_inputs (ties_in ties v) starts
-        → x.running ≡ true → b ≡ true → p ≡ ready r v
-    ready_rests b p e q runs rests =
-        sym (ap (λ (z : Bool). z && b && p) runs ∙ ap (λ (z : Bool). z && p) rests) ∙ started_ready b p e q
+    pub ready_shows : (b p : Bool) → b ≡ same_footing (footing_by (ties_in ties v) starts (place_of s v)) x.kept → p ≡ has_inputs (ties_in ties v) starts
+        → x.running ≡ true → p ≡ true → b ≡ ready r v
+    ready_shows b p e q runs shows =
+        sym (ap (λ (z : Bool). z && b && p) runs ∙ ap (λ (z : Bool). b && z) shows ∙ and_true b) ∙ started_ready b p e q
 
-    pub not_ready_rests : (b : Bool) → b ≡ same_footing (footing_by (ties_in ties v) starts (place_of s v)) x.kept → b ≡ false → false ≡ ready r v
-    not_ready_rests b e not_now =
-        sym (ap (λ (z : Bool). x.running && z && has_inputs (ties_in ties v) starts) not_now ∙ and_false x.running (has_inputs (ties_in ties v) starts))
-        ∙ started_ready b (has_inputs (ties_in ties v) starts) e refl
+    pub not_ready_waits : (p : Bool) → p ≡ has_inputs (ties_in ties v) starts → p ≡ false → false ≡ ready r v
+    not_ready_waits p q waits =
+        let b = same_footing (footing_by (ties_in ties v) starts (place_of s v)) x.kept in
+        sym (ap (λ (z : Bool). x.running && b && z) waits ∙ none_of x.running b)
+        ∙ started_ready b p refl q
 
     pub not_ready_runs : x.running ≡ false → false ≡ ready r v
     not_ready_runs stands =

@@ -212,7 +212,8 @@ fn has_inputs(ties: &Vec<Ties>, starts: &Vec<Option<Started>>, v: u32) -> bool
     }
 }
 
-/// Whether a variable is ready. It costs a look at each input.
+/// Whether a variable is ready. It costs a look at each input of one that runs, and of one that waits a look at those up to
+/// the first that it waits for.
 pub fn is_ready(sheet: &Sheet, ties: &Vec<Ties>, starts: &Vec<Option<Started>>, v: u32) -> bool
     requires ties { ties.now.items ≡ all_ties sheet.now.sheet }
     ensures { (r : Reading) → IsOver r sheet.now.sheet starts.now.items → result ≡ ready r v }
@@ -221,8 +222,8 @@ pub fn is_ready(sheet: &Sheet, ties: &Vec<Ties>, starts: &Vec<Option<Started>>, 
         None => false,
         Some(start) => {
             start.is_running()
-                && rests(sheet, ties, starts, v, start)
                 && has_inputs(ties, starts, v)
+                && rests(sheet, ties, starts, v, start)
         }
     }
 }
