@@ -1,9 +1,8 @@
 -- A table of names, as each variable is noted in it, and what is read off it.
-use Rattle.std.proofs.Common.{inl, inr, ℕ, ◌≡◌, ◌+◌, ◌<◌, ◌⊎◌, refl, sym, ◌∙◌, ap, Bool, true, false, cond, List, [], ◌∷◌, length, take, get_or, bytes_eq, nat_eq, Option, Some, None}
+use Rattle.std.proofs.Common.{ℕ, ◌≡◌, ◌+◌, ◌<◌, refl, sym, ◌∙◌, ap, Bool, true, false, cond, List, [], ◌∷◌, length, take, get_or, bytes_eq, nat_eq, Option, Some, None}
 use Rattle.std.specs.Prelude.{◌&&◌}
-use Rattle.std.specs.HashMap.{HashMap, get}
-use Rattle.std.proofs.lemmas.Bool.{cases_Bool, and_parts, and_right, eqb-true}
-use Rattle.std.proofs.lemmas.Slice.Eq.{bytes_eq-Decides}
+use Rattle.std.specs.HashMap.{HashMap}
+use Rattle.std.proofs.lemmas.Bool.{and_right}
 use Rattle.nb_sheet.specs.Lists.{Name, is_name, from_option}
 use Rattle.nb_sheet.specs.Scan.{has_name}
 use Rattle.nb_sheet.specs.Sheet.{Sheet, named}
@@ -13,7 +12,7 @@ use Rattle.nb_resolve.specs.Scan.{also, found_in, builtin_place, or_builtin}
 use Rattle.nb_resolve.specs.declared.resolution.Resolution.{Resolution}
 use Rattle.nb_resolve.specs.declared.resolution.Resolution.TheVariants.{Var, Builtin, Twice, Missing}
 use Rattle.nb_resolve.proofs.Scans.{found_yes, found_no}
-use Rattle.nb_closing.specs.Names.{Key, is_same, given, IsTable}
+use Rattle.nb_closing.specs.Names.{Key, is_same, given, noted, IsTable}
 
 -- ---- one more row
 
@@ -25,7 +24,7 @@ more_by false q rows i row was is inside at e inv set = set ∙ found_no q.0 q.1
 module _ {S : Type 0} (old new : HashMap Key Resolution S) (rows : List VarRow) (i : ℕ) (row : VarRow) (inside : i < length rows) (at : row ≡ get_or rows i row) (inv : IsTable (take i rows) old) where
   -- a row that has a name
   pub table_named : (k : Key) (own : Name) → row.name ≡ Some own → k.0 ≡ row.«module» → k.1.now ≡ own
-      → ((q : Key) → given new q ≡ cond (is_same k q) (also (i + 1) (given old q)) (given old q)) → IsTable (take (i + 1) rows) new
+      → ((q : Key) → given new q ≡ noted k (i + 1) (given old) q) → IsTable (take (i + 1) rows) new
   table_named k own named_so m n set q =
       let has : is_same k q ≡ has_name q.0 q.1.now row =
       ap (λ a. nat_eq a q.0 && bytes_eq k.1.now q.1.now) m

@@ -1,7 +1,7 @@
-ghost use Rattle.std.specs.Prelude.{◌≡◌, ◌≤◌, length, cond, IfOk, OnOk};
+ghost use Rattle.std.specs.Prelude.{◌≡◌, ◌≤◌, length, IfOk, OnOk};
 ghost use Rattle.nb_resolve.specs.Names.{resolve as resolve_of, is_duplicate_row};
 ghost use Rattle.nb_resolve.specs.Scan.{also, builtin_place, or_builtin};
-ghost use Rattle.nb_closing.specs.Names.{Key, is_same, given as given_by, IsTable};
+ghost use Rattle.nb_closing.specs.Names.{Key, given as given_by, noted, IsTable};
 
 use nb_resolve::Resolution;
 use nb_sheet::{Sheet, VarRow};
@@ -92,7 +92,7 @@ fn with_one_more(found: Resolution, var: u32) -> Resolution
 
 /// Notes that one more variable of a module has a name.
 fn note<'a>(table: &mut Table<'a>, within: u32, name: &'a str, var: u32) -> Result<(), AllocError>
-    ensures { OnOk result ((key : Key) → given_by table.new key ≡ cond (is_same (within, name.entry) key) (also var (given_by table.old key)) (given_by table.old key)) }
+    ensures { OnOk result ((key : Key) → given_by table.new key ≡ noted (within, name.entry) var (given_by table.old) key) }
 {
     if let Some(found) = table.insert((within, name), Resolution::Var(var))? {
         table.insert((within, name), with_one_more(found, var))?;
