@@ -1,5 +1,6 @@
 pub mod Agreeing
 pub mod Duplicates
+pub mod Named
 pub mod Planned
 pub mod Putting
 pub mod SameFootings

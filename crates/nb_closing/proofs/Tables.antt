@@ -1,21 +1,22 @@
 -- Tables of what each variable's names tie it to, and the graph that is made of them.
-use Rattle.std.proofs.Common.{inl, inr, ℕ, zero, suc, ◌≡◌, ◌+◌, ◌-◌, ◌<◌, ◌≤◌, refl, sym, ◌∙◌, ap, Bool, true, false, List, [], ◌∷◌, ◌++◌, map, length, take, drop, get_or, set, replicate, append-nil, arith, Option, Some, None}
+use Rattle.std.proofs.Common.{inl, inr, ℕ, zero, suc, ◌≡◌, ◌+◌, ◌-◌, ◌<◌, ◌≤◌, refl, sym, ◌∙◌, ap, false, List, [], ◌∷◌, ◌++◌, map, length, take, drop, get_or, set, replicate, append-nil, arith, Option, Some, None}
 use Rattle.std.specs.Prelude.{slice_get}
 use Rattle.std.specs.List.{range_with_len}
 use Rattle.std.proofs.lemmas.List.{length-append, length-map, length-replicate, length-take-le, take_more, take_all, drop_all}
-use Rattle.std.proofs.lemmas.List.FromFn.{length-map-range_with_len, get_or-map-range_with_len, map-range_with_len_more}
-use Rattle.std.proofs.lemmas.Option.{same_Some, none-some}
+use Rattle.std.proofs.lemmas.List.FromFn.{length-map-range_with_len, map-range_with_len_more}
+use Rattle.std.proofs.lemmas.Option.{same_Some, none-some, slice_get-get_or}
 use Rattle.std.proofs.lemmas.Bool.{cases_lt}
 use Rattle.std.proofs.Math.Seq.{drop-cons}
 use Rattle.nb_graph.specs.Needs.{has}
 use Rattle.nb_graph.specs.Graph.{with_needs}
-use Rattle.nb_sheet.specs.Lists.{numbers}
+use Rattle.nb_sheet.specs.Lists.{numbers, from_option}
 use Rattle.nb_sheet.specs.Sheet.{Sheet}
-use Rattle.nb_resolve.specs.Names.{direct}
+use Rattle.nb_sheet.specs.declared.row.VarRow.{VarRow}
+use Rattle.nb_resolve.specs.Names.{inputs_of_row, is_duplicate_row}
 use Rattle.nb_history.proofs.Direct.{direct_within}
 use Rattle.nb_history.proofs.Closing.{range_has}
 use Rattle.nb_closing.specs.Ties.{Ties}
-use Rattle.nb_closing.specs.Tables.{unmarked_ties, all_unmarked, graph_by, graph_of, IsWithin}
+use Rattle.nb_closing.specs.Tables.{by_inputs, row_ties, unmarked_ties, all_unmarked, graph_by, graph_of, IsWithin}
 
 -- ---- tables of all variables
 
@@ -35,6 +36,13 @@ pub slice_outside : {A : Type 0} (xs : List A) (i : ℕ) → length xs ≤ i →
 slice_outside [] i h = refl
 slice_outside (x ∷ xs) zero h = absurd (omega (arith, h))
 slice_outside (x ∷ xs) (suc i) h = slice_outside xs i (omega (arith, h))
+
+-- the row at a place has the ties of its variable
+pub row_at : (s : Sheet) (i : ℕ) (row : VarRow) → i < length s.rows → row ≡ get_or s.rows i row → row_ties s row ≡ unmarked_ties s (i + 1)
+row_at s i row inside at =
+    let e : suc i ≡ i + 1 = omega arith in
+    let read : slice_get s.rows i ≡ Some row = slice_get-get_or s.rows i row inside ∙ ap (λ (r : VarRow). Some r) (sym at) in
+    ap (λ (o : Option VarRow). by_inputs (from_option [] (inputs_of_row s) o) (from_option false (is_duplicate_row s) o)) (sym read) ∙ ap (unmarked_ties s) e
 
 pub length_unmarked : (s : Sheet) (ties : List Ties) → ties ≡ all_unmarked s → length ties ≡ length s.rows
 length_unmarked s ties e = ap (λ (l : List Ties). length l) e ∙ length-map-range_with_len (unmarked_ties s) 1 (length s.rows)

@@ -1,20 +1,20 @@
 -- What the marks of a graph of who needs whom tell of a sheet's variables.
 use Rattle.std.proofs.Common.{inl, inr, ℕ, zero, suc, ◌≡◌, ◌+◌, ◌<◌, ◌≤◌, cond, ◌++◌, append-nil, take, refl, sym, ◌∙◌, ap, subst, Bool, true, false, ◌&&◌, ◌||◌, List, [], ◌∷◌, map, length, get_or, arith, Option, Some, None, is_some}
 use Rattle.std.specs.Prelude.{slice_get}
-use Rattle.std.specs.List.{list_any, filter_map, range_with_len}
+use Rattle.std.specs.List.{list_any, filter_map}
 use Rattle.std.proofs.lemmas.List.{length-take-le, take_more}
 use Rattle.std.proofs.lemmas.List.FromFn.{length-map-range_with_len}
 use Rattle.std.proofs.lemmas.Option.{same_Some, slice_get-get_or}
 use Rattle.std.proofs.lemmas.Bool.{cases_lt, cases_Bool, false≢true, and_parts, and_from, or_cases, or_left, or_right, false_from_ne_true}
-use Rattle.nb_graph.specs.Needs.{has, Needs, at_once, through}
+use Rattle.nb_graph.specs.Needs.{has, Needs}
 use Rattle.nb_graph.specs.Graph.{or_nothing, needs_of, needs_itself, IsReached, IsMarks}
-use Rattle.nb_graph.proofs.Reaches.{has_any, any_has, has_head, has_tail, has_cases, needed_sound, needed_complete, needed_within, Needs_trans}
+use Rattle.nb_graph.proofs.Reaches.{has_any, any_has, has_head, has_tail, has_cases, needed_sound, needed_complete}
 use Rattle.nb_sheet.specs.declared.row.VarRow.{VarRow}
 use Rattle.nb_sheet.specs.Lists.{nth, numbers, numbers_from, from_option}
 use Rattle.nb_sheet.specs.Sheet.{Sheet}
 use Rattle.nb_sheet.proofs.Scans.{numbers_from_push}
 use Rattle.nb_resolve.specs.Names.{direct, inputs_of_row, variable_of}
-use Rattle.nb_history.specs.Needs.{needed, needs, circular, is_defined, is_observed, is_root, is_used}
+use Rattle.nb_history.specs.Needs.{needs, circular, is_defined, is_observed, is_root, is_used}
 use Rattle.nb_history.proofs.Direct.{direct_within}
 use Rattle.nb_history.proofs.Closing.{range_has, has_number}
 use Rattle.nb_closing.specs.Tables.{graph_of, is_root_row, roots_of}

@@ -1,3 +1,4 @@
+pub mod Names
 pub mod Plan
 pub mod Sites
 pub mod Tables

@@ -6,7 +6,7 @@ use Rattle.nb_sheet.specs.declared.row.VarRow.{VarRow}
 use Rattle.nb_sheet.specs.Lists.{Name, numbers, numbers_where}
 use Rattle.nb_sheet.specs.Sheet.{Sheet}
 use Rattle.nb_resolve.specs.declared.resolution.Resolution.{Resolution}
-use Rattle.nb_resolve.specs.Names.{inputs, direct, duplicate, variable_of}
+use Rattle.nb_resolve.specs.Names.{inputs, inputs_of_row, direct, duplicate, is_duplicate_row, variable_of}
 use Rattle.nb_history.specs.Rules.{input_code}
 use Rattle.nb_closing.specs.Ties.{Ties}
 
@@ -25,6 +25,10 @@ by_inputs is twin =
 -- the ties with these marks
 abbrev pub marked : Bool → Bool → Ties → Ties
 marked circular used t = record t { is_circular = circular; is_used = used }
+
+-- of a row
+abbrev pub row_ties : Sheet → VarRow → Ties
+row_ties s row = by_inputs (inputs_of_row s row) (is_duplicate_row s row)
 
 abbrev pub unmarked_ties : Sheet → ℕ → Ties
 unmarked_ties s v = by_inputs (inputs s v) (duplicate s v)

@@ -57,7 +57,7 @@ impl Closer {
     }
 
     /// Takes over the ties of a sheet, and gives the old ones. It fails only without memory, and then nothing has changed.
-    /// It costs a scan over the rows for each name of each cell.
+    /// It costs what `tie` costs.
     pub fn retie(&mut self, sheet: &Sheet) -> Result<Vec<Ties>, AllocError>
         ensures old { IfOk result (λ old. old.items ≡ self.old) }
         ensures ties { IfOk result (λ old. self.new ≡ all_ties sheet.now.sheet) }

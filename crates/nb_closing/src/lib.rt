@@ -2,6 +2,8 @@
 #![tactic(auto)]
 
 mod closer;
+mod inputs;
+mod names;
 mod planning;
 mod site;
 mod step;

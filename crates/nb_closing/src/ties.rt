@@ -3,10 +3,12 @@ ghost use Rattle.nb_graph.specs.Graph.{needs_itself, IsReached, IsMarks};
 ghost use Rattle.nb_sheet.specs.Sheet.{IsSheet};
 ghost use Rattle.nb_history.specs.Rules.{input_code};
 ghost use Rattle.nb_closing.specs.Ties.{all_ties as ties_of_all};
-ghost use Rattle.nb_closing.specs.Tables.{by_inputs as ties_by_inputs, marked as marked_with, unmarked_ties, all_unmarked, graph_by, graph_of, IsWithin, is_root_row, roots_of};
+ghost use Rattle.nb_closing.specs.Tables.{by_inputs as ties_by_inputs, marked as marked_with, row_ties, all_unmarked, graph_by, graph_of, IsWithin, is_root_row, roots_of};
 
+use crate::inputs::inputs_of_row;
+use crate::names::Names;
 use nb_graph::Graph;
-use nb_resolve::{Input, Resolution, inputs_where, is_duplicate, variables};
+use nb_resolve::{Input, Resolution, variables};
 use nb_sheet::{Sheet, VarRow};
 use std::alloc::{AllocError, Global};
 use std::marker::Model;
@@ -117,12 +119,12 @@ fn codes(alloc: Global, inputs: &[Input]) -> Result<Vec<u64>, AllocError>
     inputs.iter().map(code).collect(alloc)
 }
 
-/// What the inputs of a variable tie it to.
-fn unmarked(alloc: Global, sheet: &Sheet, var: u32) -> Result<Ties, AllocError>
-    ensures { IfOk result (λ t. t ≡ unmarked_ties sheet.now.sheet var) }
+/// What the inputs of a row tie its variable to.
+fn unmarked(alloc: Global, names: &Names, row: &VarRow) -> Result<Ties, AllocError>
+    ensures { IfOk result (λ t. t ≡ row_ties names.now row.now) }
 {
-    let twin = is_duplicate(sheet, var);
-    let inputs = inputs_where(alloc, sheet, var, twin)?;
+    let twin = names.is_duplicate(row);
+    let inputs = inputs_of_row(alloc, names, row, twin)?;
     let ties = Ties::by_inputs(alloc, inputs, twin)?;
     Ok(ties)
 }
@@ -131,10 +133,11 @@ fn unmarked(alloc: Global, sheet: &Sheet, var: u32) -> Result<Ties, AllocError>
 fn each_unmarked(alloc: Global, sheet: &Sheet) -> Result<Vec<Ties>, AllocError>
     ensures { IfOk result (λ ties. ties.items ≡ all_unmarked sheet.now.sheet) }
 {
+    let names = Names::of(alloc, sheet)?;
     let rows = sheet.rows();
-    let mut ties = Vec::new(alloc);
+    let mut ties = Vec::with_capacity(alloc, rows.len())?;
     for i in 0..rows.len() {
-        let own = unmarked(alloc, sheet, i as u32 + 1)?;
+        let own = unmarked(alloc, &names, &rows[i])?;
         ties.push(own)?;
     }
     Ok(ties)
@@ -196,8 +199,9 @@ fn mark_all(sheet: &Sheet, ties: &mut [Ties], circular: &[bool], reached: &[bool
     }
 }
 
-/// What the names of a sheet tie its variables to, by number. It fails only without memory. It costs a scan over the rows
-/// for each name of each cell.
+/// What the names of a sheet tie its variables to, by number. It fails only without memory. It costs a walk over each cell,
+/// a look-up in a hash table for each variable and each input, a scan over the builtins for each input that no variable
+/// has the name of, and a walk over who needs whom.
 pub fn tie(alloc: Global, sheet: &Sheet) -> Result<Vec<Ties>, AllocError>
     ensures { IfOk result (λ ties. ties.items ≡ ties_of_all sheet.now.sheet) }
 {

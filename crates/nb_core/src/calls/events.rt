@@ -18,8 +18,8 @@ impl Core {
     /// Takes an event of an editor: its entry, and then what leaves and starts. This is the place of the entry. A rest may
     /// come only where nothing is ready. It fails only without memory; then nothing has changed, and the event comes back.
     ///
-    /// An edit costs a scan over the rows for each name of each cell, a frame a look at each start, a settlement a look at
-    /// each ticket.
+    /// An edit costs a walk over each cell and a look-up for each of its free names, a frame a look at each start, a
+    /// settlement a look at each ticket.
     pub fn event(&mut self, editor: u8, event: Event) -> Result<u64, (Event, AllocError)>
         requires low { editor < 8 }
         requires rest { RestsInTime (standing self.old) event }

@@ -1,7 +1,7 @@
 use Rattle.std.proofs.Common.{ℕ, ◌≡◌, ◌<◌, ◌∙◌, sym, ap, subst, length, arith, List, Bool}
 use Rattle.nb_graph.specs.Needs.{has}
 use Rattle.nb_graph.specs.Graph.{needs_itself, IsReached, IsMarks}
-use Rattle.nb_closing.specs.Tables.{all_unmarked, graph_of, roots_of}
+use Rattle.nb_closing.specs.Tables.{graph_of, roots_of}
 use Rattle.nb_closing.proofs.Tables.{length_unmarked, ties_within, graph_of_ties}
 use Rattle.nb_closing.proofs.Used.{roots_within}
 use Rattle.nb_closing.proofs.ties.tie.Goals as goal
