@@ -3,10 +3,12 @@
 
 mod closer;
 mod planning;
+mod quiet;
 mod site;
 mod step;
 mod telling;
 mod ties;
+mod touching;
 
 pub use closer::Closer;
 pub use site::{Moment, Site, sites};
