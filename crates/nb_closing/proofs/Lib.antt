@@ -2,10 +2,13 @@ pub mod Agreeing
 pub mod Duplicates
 pub mod Planned
 pub mod Putting
+pub mod Quiets
 pub mod SameFootings
+pub mod SitesOf
 pub mod Sound
 pub mod StartsKept
 pub mod Tables
 pub mod ToldAfter
 pub mod ToldRows
+pub mod Touches
 pub mod Used

@@ -18,6 +18,10 @@ pub record AreTouched (s : Sheet) (loud : List ℕ) (marks : List Bool) : Type 0
   pub only : (v : ℕ) → marked marks v ≡ true → IsTouched s loud v
   pub each : (v : ℕ) → v ≤ length s.rows → IsTouched s loud v → marked marks v ≡ true
 
--- rows that need what these ties name, after one for the number 0
+-- a row of a wave that needs what these ties name
+abbrev pub naming : Ties → Row
+naming t = record unput { needs = t.direct }
+
+-- such rows, after one for the number 0
 abbrev pub needing : List Ties → List Row
-needing ties = unput ∷ map (λ (t : Ties). record unput { needs = t.direct }) ties
+needing ties = unput ∷ map naming ties

@@ -61,8 +61,9 @@ fn rests_on_sites(ties: &Ties, sites: &Vec<Site>, kept: &Footing) -> bool
     if ties.is_circular() {
         return kept.starts.as_slice().is_empty() && kept.renewals.as_slice().is_empty();
     }
-    same_starts(sites, ties.direct(), kept.starts.as_slice())
-        && same_renewals(sites, ties.direct(), kept.renewals.as_slice())
+    let direct = ties.direct();
+    same_starts(sites, direct, kept.starts.as_slice())
+        && same_renewals(sites, direct, kept.renewals.as_slice())
 }
 
 /// Whether a variable of these ties, whose body has this place, rests on this where the variables have these sites.
