@@ -9,5 +9,5 @@ returns-then-wanted c =
     let m = c.args.moment.now in
     let later : Site.later (site_in m.sites.items c.args.v) ≡ false = ap (λ (x : Site). x.later) (sym c.site_at.ensures) ∙ c.if-site_at.false in
     let wants : (not m.disposed && c.args.ties.now.is_used) ≡ true = sym c.is_wanted-wanted.ensures ∙ c.if-wanted.true in
-    quiet_started c.args.sheet.now.sheet c.args.starts.now.items m c.args.v c.args.ties.now c.in-Some.start.now _ c.place_at-place.result c.rests_on.result c.requires later ? wants c.kept.ensures.value
+    quiet_started c.args.sheet.now.sheet c.args.starts.now.items m c.args.v c.args.ties.now c.in-Some.start.now _ c.place_at-place.result c.rests_on.result c.requires later (sym c.in-Some.ensures) wants c.kept.ensures.value
     c.place_at-place.ensures c.rests_on.ensures

@@ -1,4 +1,4 @@
-use Rattle.std.proofs.Common.{ℕ, ◌≡◌, ◌<◌, ◌+◌, ◌∙◌, ◌++◌, ◌∷◌, [], sym, ap, cond, not, false, true, Bool, length, arith, List, Vec, Global}
+use Rattle.std.proofs.Common.{ℕ, ◌≡◌, ◌<◌, ◌+◌, ◌∙◌, ◌++◌, ◌∷◌, [], sym, ap, append-nil, cond, not, false, true, Bool, length, arith, List, Vec, Global}
 use Rattle.std.specs.List.{filter, range_with_len}
 use Rattle.nb_sheet.specs.declared.row.VarRow.{VarRow}
 use Rattle.nb_closing.specs.Quiet.{quiet_at}
@@ -26,16 +26,13 @@ loop-k-preserved c =
     let before = filter p (range_with_len 1 k) in
     elim c.if-not-is_quiet.branch [
       | then-not-is_quiet+in_ok-push w ↦
-          let loud : p (k + 1) ≡ true = ap not (sym c.is_quiet.ensures) ∙ ? in
+          let loud : p (k + 1) ≡ true = ap not (sym c.is_quiet.ensures ∙ w.if-not-is_quiet.true) in
           ap (λ (v : Vec ℕ Global). v.items) w.vars-is
           ∙ (w.in_ok-push.ensures.items
           ∙ (ap (λ (l : List ℕ). l ++ (k + 1) ∷ []) c.loop-k.invariant
           ∙ sym (found_more p k ∙ ap (λ (b : Bool). before ++ cond b ((k + 1) ∷ []) []) loud)))
       | else-not-is_quiet w ↦
-          let quiet : p (k + 1) ≡ false = ap not (sym c.is_quiet.ensures) ∙ ? in
+          let quiet : p (k + 1) ≡ false = ap not (sym c.is_quiet.ensures ∙ w.if-not-is_quiet.false) in
           ap (λ (v : Vec ℕ Global). v.items) w.vars-is
-          ∙ (c.loop-k.invariant ∙ sym (found_more p k ∙ ap (λ (b : Bool). before ++ cond b ((k + 1) ∷ []) []) quiet ∙ ?))
+          ∙ (c.loop-k.invariant ∙ sym (found_more p k ∙ ap (λ (b : Bool). before ++ cond b ((k + 1) ∷ []) []) quiet ∙ append-nil before))
     ]
-
-pub returns-clause-loud : goal.returns-clause-loud
-returns-clause-loud c = ?

@@ -1,5 +1,7 @@
-use Rattle.std.proofs.Common.{◌≡◌, ◌<◌, refl, ap, List, length, arith}
+use Rattle.std.proofs.Common.{◌≡◌, ◌<◌, ◌+◌, ◌∙◌, refl, sym, ap, subst, List, length, arith}
 use Rattle.nb_sheet.specs.declared.row.VarRow.{VarRow}
+use Rattle.nb_wave.specs.Wave.{Wave}
+use Rattle.nb_closing.specs.Told.{AreTold}
 use Rattle.nb_closing.proofs.Putting.{told_none, told_skips, ties_length, ties_at}
 use Rattle.nb_closing.proofs.telling.tell.Goals as goal
 use Rattle.nb_closing.proofs.telling.tell.Goals.{then-touched-k+in_ok-tell_one, else-touched-k}
@@ -22,7 +24,18 @@ tell_one-requires-clause-ties c =
 
 pub loop-k-preserved : goal.loop-k-preserved
 loop-k-preserved c =
+    let s = c.args.sheet.now.sheet in
+    let xs = c.args.starts.now.items in
+    let m = c.args.moment.now in
+    let touched = c.args.touched.now in
+    let k = c.loop-k.k in
     elim c.if-touched-k.branch [
-      | then-touched-k+in_ok-tell_one w ↦ let h = w.in_ok-tell_one in ?
-      | else-touched-k w ↦ let h = w.if-touched-k in ?
+      | then-touched-k+in_ok-tell_one w ↦ record {
+        told = subst (λ (x : Wave). AreTold s xs m touched (k + 1) x.rows) (sym w.wave-is) w.in_ok-tell_one.ensures.told;
+        same = ap (λ (x : Wave). x.marked) w.wave-is ∙ w.tell_one.ensures.marked ∙ c.loop-k.invariant.same;
+      }
+      | else-touched-k w ↦ record {
+        told = subst (λ (x : Wave). AreTold s xs m touched (k + 1) x.rows) (sym w.wave-is) (told_skips s xs m touched k c.loop-k.wave.rows w.if-touched-k.false c.loop-k.invariant.told);
+        same = ap (λ (x : Wave). x.marked) w.wave-is ∙ c.loop-k.invariant.same;
+      }
     ]
