@@ -60,7 +60,7 @@ plans_from touched (Pending v ∷ steps) r rows new place told at runs ends once
         subst IsMarked (sym e) (told.each v a.row here a.at).marked,
       ),
       plans_from touched steps (after r (PendingEntry v d)) (stepped begun v place rows) new (place + 1) (told_pending touched r rows told v d here place at) (ap (λ (n : ℕ). n + 1) at) runs.1 ends
-      (once_later (Pending v) steps once),
+          (once_later (Pending v) steps once),
     )
 
 -- ---- where nothing is loud

@@ -1,5 +1,5 @@
 -- What a reading's footings have of its variables' sites.
-use Rattle.std.proofs.Common.{ℕ, ◌≡◌, refl, ◌∙◌, ap, Bool, true, false, cond, not, ◌&&◌, List, [], map, Option, Some, None}
+use Rattle.std.proofs.Common.{ℕ, ◌≡◌, refl, ◌∙◌, ap, Bool, true, false, cond, not, ◌&&◌, [], map, Option, Some, None}
 use Rattle.std.specs.Prelude.{nat_le}
 use mathlib.Core.Path.{fun_ext}
 use Rattle.nb_sheet.specs.Lists.{from_option}

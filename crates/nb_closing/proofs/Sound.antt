@@ -18,13 +18,12 @@ use Rattle.nb_history.specs.Needs.{circular}
 use Rattle.nb_history.specs.Reading.{Reading, Start, Footing, start_of}
 use Rattle.nb_history.proofs.Direct.{direct_within}
 use Rattle.nb_history.proofs.Closing.{range_has, has_number}
-use Rattle.nb_runs.specs.Footings.{footing_of}
 use Rattle.nb_runs.specs.Starts.{start_in}
 use Rattle.nb_closing.specs.declared.site.Site.{Site}
 use Rattle.nb_closing.specs.declared.site.Moment.{Moment}
 use Rattle.nb_closing.specs.Quiet.{quiet_at, loud_vars}
 use Rattle.nb_closing.specs.Sites.{site_in, kept_of, IsScene}
-use Rattle.nb_closing.specs.Told.{footing_at, IsTold, AreTold}
+use Rattle.nb_closing.specs.Told.{IsTold, AreTold}
 use Rattle.nb_closing.specs.Touched.{AreTouched}
 use Rattle.nb_closing.proofs.Duplicates.{duplicate_direct, nothing_direct}
 use Rattle.nb_closing.proofs.SitesOf.{sites_of}

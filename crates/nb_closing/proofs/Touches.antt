@@ -1,5 +1,5 @@
 -- What a graph of who is needed by whom reaches from the loud variables are the touched ones.
-use Rattle.std.proofs.Common.{ℕ, zero, suc, ◌+◌, ◌≡◌, ◌<◌, ◌≤◌, refl, sym, ◌∙◌, ap, subst, Bool, true, false, List, [], ◌∷◌, length, map, get_or, arith, Option, Some, None, inl, inr}
+use Rattle.std.proofs.Common.{ℕ, zero, suc, ◌+◌, ◌≡◌, ◌<◌, ◌≤◌, refl, sym, ◌∙◌, ap, Bool, true, false, List, [], ◌∷◌, length, map, get_or, arith, Option, Some, inl, inr}
 use Rattle.std.specs.Prelude.{slice_get, option_map}
 use Rattle.std.proofs.lemmas.Bool.{cases_lt, false≢true}
 use Rattle.std.proofs.lemmas.List.{length-map, get_or_past}
@@ -17,7 +17,7 @@ use Rattle.nb_wave.specs.Users.{IsReversed}
 use Rattle.nb_history.proofs.Direct.{direct_within}
 use Rattle.nb_history.proofs.Closing.{range_has}
 use Rattle.nb_closing.specs.Ties.{Ties, ties_of, all_ties}
-use Rattle.nb_closing.specs.Touched.{IsTouched, AreTouched, naming, needing}
+use Rattle.nb_closing.specs.Touched.{AreTouched, naming, needing}
 use Rattle.nb_closing.proofs.Duplicates.{nothing_direct}
 use Rattle.nb_closing.proofs.Putting.{ties_length}
 use Rattle.nb_closing.proofs.Tables.{slice_map, slice_outside}

@@ -1,4 +1,4 @@
-use Rattle.std.proofs.Common.{◌≡◌, ◌∙◌, sym, ap, not, ◌&&◌, false, true, Bool}
+use Rattle.std.proofs.Common.{◌≡◌, ◌∙◌, sym, ap, not, ◌&&◌, false, true}
 use Rattle.nb_closing.specs.declared.site.Site.{Site}
 use Rattle.nb_closing.specs.Sites.{site_in}
 use Rattle.nb_closing.proofs.Quiets.{quiet_started}

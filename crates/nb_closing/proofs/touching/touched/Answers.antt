@@ -1,4 +1,4 @@
-use Rattle.std.proofs.Common.{ℕ, ◌<◌, ◌≤◌, ◌≡◌, ◌∙◌, ap, sym, subst, not, true, List, length, arith}
+use Rattle.std.proofs.Common.{ℕ, ◌≡◌, ◌∙◌, ap, sym, subst, not, List, arith}
 use Rattle.nb_graph.specs.Needs.{has}
 use Rattle.nb_graph.specs.Graph.{IsReached, IsMarks}
 use Rattle.nb_graph.proofs.Reaches.{has_filter}

@@ -1,9 +1,8 @@
-use Rattle.std.proofs.Common.{ℕ, ◌≡◌, ◌<◌, ◌+◌, ◌∙◌, refl, sym, ap, List, [], length, get_or, arith}
+use Rattle.std.proofs.Common.{ℕ, ◌≡◌, ◌<◌, ◌+◌, ◌∙◌, ap, List, [], length, get_or, arith}
 use Rattle.std.specs.Prelude.{replicate}
 use Rattle.nb_wave.specs.declared.row.Row.{Row}
 use Rattle.nb_wave.specs.Users.{added_all}
 use Rattle.nb_wave.proofs.Reversed.{added_all_more, read_inside, length_added}
-use Rattle.nb_closing.specs.Ties.{Ties}
 use Rattle.nb_closing.specs.Touched.{naming, needing}
 use Rattle.nb_closing.proofs.Touches.{length_needing, needing_at}
 use Rattle.nb_closing.proofs.touching.user_lists.Goals as goal
