@@ -1,8 +1,8 @@
 -- Tests that agree find the same in lists of numbers, also where one list goes on past all that pass.
 use Rattle.std.proofs.Common.{ℕ, zero, suc, ◌+◌, ◌≡◌, ◌≤◌, refl, sym, ◌∙◌, ap, Bool, true, false, cond, List, arith, Some, None}
 use Rattle.std.specs.List.{list_any, range_with_len}
-use Rattle.nb_graph.specs.Needs.{has, all_needed}
-use Rattle.nb_graph.proofs.Reaches.{Within, any_has, has_any, needed_sound, needed_complete}
+use Rattle.nb_graph.specs.Needs.{has}
+use Rattle.nb_graph.proofs.Reaches.{any_has, has_any}
 use Rattle.nb_wave.specs.Rules.{first_where as first_by}
 use Rattle.nb_history.specs.Lists.{first_where}
 
@@ -22,13 +22,6 @@ any_same p q xs ys same among =
     (λ h.
     let t : (w : ℕ) × (has ys w ≡ true) × (q w ≡ true) = any_has q ys h in
     has_any p xs t.0 (among t.0 t.2 ∙ t.1) (same t.0 ∙ t.2))
-
--- what is needed among these numbers is so among those, where both have all direct needs
-pub needed_same : (direct : ℕ → List ℕ) (xs ys : List ℕ) → Within direct xs → Within direct ys → (v u : ℕ) → has (all_needed direct xs v) u ≡ has (all_needed direct ys v) u
-needed_same direct xs ys in_xs in_ys v u =
-    both_ways (has (all_needed direct xs v) u) (has (all_needed direct ys v) u)
-    (λ h. needed_complete direct ys in_ys (needed_sound direct xs v u h))
-    (λ h. needed_complete direct xs in_xs (needed_sound direct ys v u h))
 
 -- ---- the first that passes
 

@@ -3,10 +3,13 @@ pub mod Duplicates
 pub mod Named
 pub mod Planned
 pub mod Putting
+pub mod Quiets
 pub mod SameFootings
+pub mod SitesOf
 pub mod Sound
 pub mod StartsKept
 pub mod Tables
 pub mod ToldAfter
 pub mod ToldRows
+pub mod Touches
 pub mod Used

@@ -9,6 +9,7 @@ use Rattle.nb_sheet.specs.Sheet.{Sheet}
 use Rattle.nb_resolve.specs.Names.{direct, duplicate}
 use Rattle.nb_wave.specs.declared.footing.Footing.{Footing as Numbered}
 use Rattle.nb_wave.specs.declared.row.Row.{Row}
+use Rattle.nb_wave.specs.Marks.{marked}
 use Rattle.nb_wave.specs.Steps.{changed}
 use Rattle.nb_wave.specs.Wave.{unput, no_rows, put_row, IsAsMany, IsNumber}
 use Rattle.nb_wave.proofs.Stepped.{get_changed_same, get_changed_other, length_changed}
@@ -126,26 +127,26 @@ get_unput zero v row h = cc
 get_unput (suc n) zero row h = cc
 get_unput (suc n) (suc v) row h = get_unput n v row h
 
-none_told : (s : Sheet) (xs : List (Option Start)) (m : Moment) (n : ℕ) → n ≡ 1025 → AreTold s xs m 0 (replicate n unput)
-none_told s xs m n e =
+none_told : (s : Sheet) (xs : List (Option Start)) (m : Moment) (marks : List Bool) (n : ℕ) → n ≡ 1025 → AreTold s xs m marks 0 (replicate n unput)
+none_told s xs m marks n e =
     record {
       size = length-replicate n unput ∙ e;
-      told = λ v row low high at. absurd (omega (arith, low, high));
+      told = λ v row low high here at. absurd (omega (arith, low, high));
       rest = λ v row past at. get_unput n v row at;
     }
 
-pub told_none : (s : Sheet) (xs : List (Option Start)) (m : Moment) (rows : List Row) → rows ≡ no_rows → AreTold s xs m 0 rows
+pub told_none : (s : Sheet) (xs : List (Option Start)) (m : Moment) (marks : List Bool) (rows : List Row) → rows ≡ no_rows → AreTold s xs m marks 0 rows
 unfolding no_rows
-told_none s xs m rows e = subst (AreTold s xs m 0) (sym e) (none_told s xs m 1025 refl)
+told_none s xs m marks rows e = subst (AreTold s xs m marks 0) (sym e) (none_told s xs m marks 1025 refl)
 
 kept_then : (k : Option Numbered) (row : Row) → row.kept ≡ None → Row.kept (keeping k row) ≡ k
 kept_then None row e = e
 kept_then (Some k) row e = refl
 
-module _ (s : Sheet) (xs : List (Option Start)) (m : Moment) (k : ℕ) (inside : k < 1024) (old mid new : List Row) (told : AreTold s xs m k old)
+module _ (s : Sheet) (xs : List (Option Start)) (m : Moment) (marks : List Bool) (k : ℕ) (inside : k < 1024) (old mid new : List Row) (told : AreTold s xs m marks k old) (here : marked marks (k + 1) ≡ true)
     (wanted later : Bool) (present : Numbered) (needs : List ℕ)
     (wanted_is : wanted ≡ (not m.disposed && is_used s (k + 1))) (later_is : later ≡ Site.later (site_in m.sites.items (k + 1)))
-    (present_is : footing_of present ≡ footing_at s (site_in m.sites.items) (k + 1)) (marked : IsMarked present) (needs_are : needs ≡ direct s (k + 1))
+    (present_is : footing_of present ≡ footing_at s (site_in m.sites.items) (k + 1)) (three : IsMarked present) (needs_are : needs ≡ direct s (k + 1))
     (put : mid ≡ changed (put_row wanted later present needs) (k + 1) old) (kept : IsKept (kept_of (start_in xs (k + 1))) (k + 1) mid new) where
   size_then : length new ≡ length old
   size_then =
@@ -165,7 +166,7 @@ module _ (s : Sheet) (xs : List (Option Start)) (m : Moment) (k : ℕ) (inside :
     where
       go : (o : Option Row) → slice_get old (k + 1) ≡ o → slice_get old (k + 1) ≡ Some unput
       go None e = absurd (none_there old (k + 1) (omega (arith, inside, told.size)) e)
-      go (Some row) e = e ∙ ap (λ (x : Row). Some x) (told.rest (k + 1) row (inr (omega arith)) e)
+      go (Some row) e = e ∙ ap (λ (x : Row). Some x) (told.rest (k + 1) row (inr (inl (omega arith))) e)
 
   get_itself : slice_get new (k + 1) ≡ Some (keeping kept.kept put_there)
   get_itself =
@@ -179,15 +180,15 @@ module _ (s : Sheet) (xs : List (Option Start)) (m : Moment) (k : ℕ) (inside :
       go : (o : Option Numbered) → option_map footing_of o ≡ kept_of (start_in xs (k + 1)) → IfSome o IsMarked
           → IsTold s m.disposed (site_in m.sites.items) (kept_of (start_in xs (k + 1))) (k + 1) (keeping o put_there)
       go None f g =
-          record { wanted = wanted_is; later = later_is; present = present_is; marked = marked; needs = needs_are; kept = f; kept_marked = g }
+          record { wanted = wanted_is; later = later_is; present = present_is; marked = three; needs = needs_are; kept = f; kept_marked = g }
       go (Some x) f g =
-          record { wanted = wanted_is; later = later_is; present = present_is; marked = marked; needs = needs_are; kept = f; kept_marked = g }
+          record { wanted = wanted_is; later = later_is; present = present_is; marked = three; needs = needs_are; kept = f; kept_marked = g }
 
-  pub told_more : AreTold s xs m (k + 1) new
+  pub told_more : AreTold s xs m marks (k + 1) new
   told_more =
       record {
         size = size_then ∙ told.size;
-        told = λ v row low high at.
+        told = λ v row low high is at.
             elim (cases_eq (k + 1) v) [
               | inl same ↦
                   let there : slice_get new (k + 1) ≡ Some row = ap (slice_get new) same ∙ at in
@@ -195,12 +196,15 @@ module _ (s : Sheet) (xs : List (Option Start)) (m : Moment) (k : ℕ) (inside :
                   let e : keeping kept.kept put_there ≡ row = cc in
                   subst (λ (x : ℕ). IsTold s m.disposed (site_in m.sites.items) (kept_of (start_in xs x)) x row) same
                   (subst (IsTold s m.disposed (site_in m.sites.items) (kept_of (start_in xs (k + 1))) (k + 1)) e told_there)
-              | inr other ↦ told.told v row low (omega (arith, high, other)) (sym (get_other v other) ∙ at)
+              | inr other ↦ told.told v row low (omega (arith, high, other)) is (sym (get_other v other) ∙ at)
             ];
         rest = λ v row past at.
             elim past [
               | inl e ↦ told.rest v row (inl e) (sym (get_other v (λ x. zero_other x e)) ∙ at)
-              | inr more ↦ told.rest v row (inr (omega (arith, more))) (sym (get_other v (λ x. past_other x more)) ∙ at)
+              | inr later ↦ elim later [
+                | inl more ↦ told.rest v row (inr (inl (omega (arith, more)))) (sym (get_other v (λ x. past_other x more)) ∙ at)
+                | inr still ↦ told.rest v row (inr (inr still)) (sym (get_other v (λ x. false≢true (sym still ∙ (ap (marked marks) (sym x) ∙ here)))) ∙ at)
+              ]
             ];
       }
     where
@@ -209,3 +213,20 @@ module _ (s : Sheet) (xs : List (Option Start)) (m : Moment) (k : ℕ) (inside :
 
       past_other : {v : ℕ} → k + 1 ≡ v → k + 1 < v → ⊥
       past_other x more = omega (arith, x, more)
+
+-- one that isn't marked isn't told
+pub told_skips : (s : Sheet) (xs : List (Option Start)) (m : Moment) (marks : List Bool) (k : ℕ) (rows : List Row) → marked marks (k + 1) ≡ false → AreTold s xs m marks k rows → AreTold s xs m marks (k + 1) rows
+told_skips s xs m marks k rows still told =
+    record {
+      size = told.size;
+      told = λ v row low high is at.
+          elim (cases_eq (k + 1) v) [
+            | inl same ↦ absurd (false≢true (sym still ∙ (ap (marked marks) same ∙ is)))
+            | inr other ↦ told.told v row low (omega (arith, high, other)) is at
+          ];
+      rest = λ v row past at.
+          elim past [
+            | inl e ↦ told.rest v row (inl e) at
+            | inr later ↦ elim later [ inl more ↦ told.rest v row (inr (inl (omega (arith, more)))) at | inr other ↦ told.rest v row (inr (inr other)) at ]
+          ];
+    }

@@ -1,5 +1,7 @@
 -- Two numbered footings are one where they are as the log has them.
-use Rattle.std.proofs.Common.{ℕ, zero, suc, ◌≡◌, ◌≤◌, refl, ◌∙◌, ap, Bool, true, false, not, ◌&&◌, eqb, List, [], ◌∷◌, arith, Option, Some, None}
+use Rattle.std.proofs.Common.{ℕ, zero, suc, ◌≡◌, ◌≢◌, ◌≤◌, refl, sym, ◌∙◌, ap, Bool, true, false, not, ◌&&◌, eqb, List, [], ◌∷◌, map, length, arith, Option, Some, None}
+use Rattle.std.proofs.lemmas.Bool.{and_parts, false≢true, false_from_ne_true}
+use Rattle.std.proofs.lemmas.List.{length-map}
 use Rattle.std.specs.Prelude.{option_map, IfSome}
 use Rattle.nb_wave.specs.declared.footing.Footing.{Footing as Numbered}
 use Rattle.nb_wave.specs.Footings.{same_numbers as numbers_by, same_base as base_by, same_footing as footing_by}
@@ -76,3 +78,14 @@ module _ (f : Numbered) (g : Footing) (e : footing_of f ≡ g) (marked : IsMarke
       ∙ ap (λ (b : Bool). same_base (footing_of f) (footing_of k) && not b) (footing_same f k marked m)
       ∙ ap (λ (x : Footing). same_base x (footing_of k) && not (same_footing x (footing_of k))) e
       ∙ ap (λ (x : Footing). same_base g x && not (same_footing g x)) there
+
+-- ---- lists of two lengths differ
+
+same_length : (xs ys : List ℕ) → same_numbers xs ys ≡ true → length xs ≡ length ys
+same_length [] [] h = refl
+same_length [] (y ∷ ys) h = absurd (false≢true h)
+same_length (x ∷ xs) [] h = absurd (false≢true h)
+same_length (x ∷ xs) (y ∷ ys) h = ap suc (same_length xs ys (and_parts (eqb x y) (same_numbers xs ys) h).1)
+
+pub differ_length : (f : ℕ → ℕ) (xs ys : List ℕ) → length xs ≢ length ys → false ≡ same_numbers (map f xs) ys
+differ_length f xs ys ne = sym (false_from_ne_true (same_numbers (map f xs) ys) (λ h. ne (sym (length-map xs f) ∙ same_length (map f xs) ys h)))

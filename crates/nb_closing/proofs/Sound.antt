@@ -1,43 +1,34 @@
--- Rows that are told of all variables of a sheet are sound, and told of each reading of the scene.
-use Rattle.std.proofs.Common.{ℕ, zero, suc, ◌+◌, ◌≡◌, ◌≢◌, ◌≤◌, ◌<◌, ◌⊎◌, refl, sym, ◌∙◌, ap, subst, Bool, true, false, cond, eqb, List, [], length, map, arith, Option, Some, None, inl, inr}
+-- Rows that are told of the touched variables of a sheet are sound, and told of them in each reading of the scene.
+use Rattle.std.proofs.Common.{ℕ, ◌+◌, ◌≡◌, ◌≢◌, ◌≤◌, ◌<◌, ◌⊎◌, refl, sym, ◌∙◌, ap, subst, Bool, true, false, cond, not, eqb, List, [], length, map, arith, Option, Some, None, inl, inr}
 use Rattle.std.specs.Prelude.{slice_get}
-use Rattle.std.proofs.lemmas.Bool.{cases_Bool, cases_lt, false≢true, false_from_ne_true, eqb-true, eq-eqb}
-use Rattle.std.proofs.lemmas.Option.{slice_get_past}
+use Rattle.std.proofs.lemmas.Bool.{cases_Bool, false≢true, eqb-true, eq-eqb}
 use mathlib.Core.Path.{fun_ext}
-use Rattle.nb_graph.specs.Needs.{Needs}
-use Rattle.nb_graph.proofs.Reaches.{needed_complete}
-use Rattle.nb_sheet.specs.Lists.{nth, numbers, from_option, option_then}
+use Rattle.nb_graph.specs.Needs.{has, Needs, at_once, through}
+use Rattle.nb_graph.proofs.Reaches.{needed_complete, has_filter, Needs_trans}
+use Rattle.nb_sheet.specs.Lists.{nth, numbers}
 use Rattle.nb_sheet.specs.Sheet.{Sheet}
 use Rattle.nb_sheet.specs.declared.row.VarRow.{VarRow}
-use Rattle.nb_resolve.specs.Names.{inputs, direct, duplicate, is_duplicate_row}
+use Rattle.nb_resolve.specs.Names.{direct, duplicate}
 use Rattle.nb_wave.specs.declared.footing.Footing.{Footing as Numbered}
 use Rattle.nb_wave.specs.declared.row.Row.{Row}
+use Rattle.nb_wave.specs.Marks.{marked}
 use Rattle.nb_wave.specs.Rules.{from_option as option_by, needs_of, IsSound}
 use Rattle.nb_wave.specs.Wave.{unput}
 use Rattle.nb_history.specs.Needs.{circular}
 use Rattle.nb_history.specs.Reading.{Reading, Start, Footing, start_of}
-use Rattle.nb_history.specs.Rules.{place_of, input_code, wanted}
 use Rattle.nb_history.proofs.Direct.{direct_within}
-use Rattle.nb_history.proofs.Closing.{Shaped, wanted_has, range_has}
-use Rattle.nb_runs.specs.Footings.{footing_of}
+use Rattle.nb_history.proofs.Closing.{range_has, has_number}
 use Rattle.nb_runs.specs.Starts.{start_in}
 use Rattle.nb_closing.specs.declared.site.Site.{Site}
 use Rattle.nb_closing.specs.declared.site.Moment.{Moment}
-use Rattle.nb_closing.specs.Sites.{site_of, site_in, kept_of, IsScene}
-use Rattle.nb_closing.specs.Told.{footing_at, IsTold, AreTold}
-use Rattle.nb_closing.proofs.Duplicates.{duplicate_direct, alone_open, nothing_inputs, nothing_direct}
-use Rattle.nb_closing.proofs.ToldRows.{none_there, sites_of, IsToldOf, Told}
-
--- a number has a row, or none
-number_cases : (v n : ℕ) → ((1 ≤ v) × (v ≤ n)) ⊎ ((v ≡ 0) ⊎ (n < v))
-number_cases zero n = inr (inl refl)
-number_cases (suc i) n = elim (cases_lt n (suc i)) [ inl past ↦ inr (inr past) | inr inside ↦ inl (omega arith, inside) ]
-
--- past the variables there is none
-nth_past : {A : Type 0} (xs : List A) (v : ℕ) → (v ≡ 0) ⊎ (length xs < v) → nth xs v ≡ None
-nth_past xs zero h = refl
-nth_past xs (suc i) (inl e) = absurd (omega (arith, e))
-nth_past xs (suc i) (inr past) = slice_get_past xs i (omega (arith, past))
+use Rattle.nb_closing.specs.Quiet.{quiet_at, loud_vars}
+use Rattle.nb_closing.specs.Sites.{site_in, kept_of, IsScene}
+use Rattle.nb_closing.specs.Told.{IsTold, AreTold}
+use Rattle.nb_closing.specs.Touched.{AreTouched}
+use Rattle.nb_closing.proofs.Duplicates.{duplicate_direct, nothing_direct}
+use Rattle.nb_closing.proofs.SitesOf.{sites_of}
+use Rattle.nb_closing.proofs.Quiets.{number_cases, quiet_there}
+use Rattle.nb_closing.proofs.ToldRows.{IsToldOf, Told}
 
 -- ---- a mark has neither starts nor renewals
 
@@ -65,107 +56,88 @@ module _ (s : Sheet) (disposed : Bool) (site : ℕ → Site) (start : Option Foo
   pub none_renewed : Numbered.mark row.present ≢ 0 → Numbered.renewals row.present ≡ []
   none_renewed mark = ap (λ (f : Footing). f.renewals) told.present ∙ marked_none (λ u. Site.renewal (site u)) mark
 
--- ---- all variables of a sheet are told
+-- ---- the marked variables of a sheet are told
 
-module _ (s : Sheet) (xs : List (Option Start)) (m : Moment) (rows : List Row) (few : length s.rows ≤ 1024) (told : AreTold s xs m (length s.rows) rows) where
-  needs_at : (v : ℕ) → needs_of rows v ≡ direct s v
-  needs_at v =
+module _ (s : Sheet) (xs : List (Option Start)) (m : Moment) (marks : List Bool) (rows : List Row) (told : AreTold s xs m marks (length s.rows) rows) where
+  -- v's row is told, or was never put
+  row_cases : (v : ℕ) (row : Row) → slice_get rows v ≡ Some row → IsTold s m.disposed (site_in m.sites.items) (kept_of (start_in xs v)) v row ⊎ (row ≡ unput)
+  row_cases v row at =
       elim (number_cases v (length s.rows)) [
-        | inl is ↦ inside is (slice_get rows v) refl
-        | inr past ↦ outside past (slice_get rows v) refl ∙ sym (nothing_direct s v (nth_past s.rows v past))
+        | inl is ↦ elim (cases_Bool (marked marks v)) [
+          | inl here ↦ inl (told.told v row is.0 is.1 here at)
+          | inr other ↦ inr (told.rest v row (inr (inr other)) at)
+        ]
+        | inr past ↦ elim past [ inl e ↦ inr (told.rest v row (inl e) at) | inr more ↦ inr (told.rest v row (inr (inl more)) at) ]
       ]
+
+  needs_there : (v u : ℕ) → has (needs_of rows v) u ≡ true → has (direct s v) u ≡ true
+  needs_there v u h = go (slice_get rows v) refl
     where
-      inside : (1 ≤ v) × (v ≤ length s.rows) → (o : Option Row) → slice_get rows v ≡ o → needs_of rows v ≡ direct s v
-      inside is (Some row) e = ap (option_by [] (λ (x : Row). x.needs)) e ∙ (told.told v row is.0 is.1 e).needs
-      inside is None e = absurd (none_there rows v (omega (arith, is.1, few, told.size)) e)
+      go : (o : Option Row) → slice_get rows v ≡ o → has (direct s v) u ≡ true
+      go None e = absurd (false≢true (ap (λ (o : Option Row). has (option_by [] (λ (x : Row). x.needs) o) u) (sym e) ∙ h))
+      go (Some row) e =
+          let there : has row.needs u ≡ true = ap (λ (o : Option Row). has (option_by [] (λ (x : Row). x.needs) o) u) (sym e) ∙ h in
+          elim (row_cases v row e) [
+            | inl is ↦ ap (λ (l : List ℕ). has l u) (sym is.needs) ∙ there
+            | inr none ↦ absurd (false≢true (ap (λ (x : Row). has x.needs u) (sym none) ∙ there))
+          ]
 
-      outside : (v ≡ 0) ⊎ (length s.rows < v) → (o : Option Row) → slice_get rows v ≡ o → needs_of rows v ≡ []
-      outside past (Some row) e = ap (option_by [] (λ (x : Row). x.needs)) e ∙ ap (λ (x : Row). x.needs) (told.rest v row past e)
-      outside past None e = ap (option_by [] (λ (x : Row). x.needs)) e
-
-  needs_all : needs_of rows ≡ direct s
-  needs_all = fun_ext needs_at
+  to_sheet : {v u : ℕ} → Needs (needs_of rows) v u → Needs (direct s) v u
+  to_sheet {v} {u} (at_once h) = at_once (needs_there v u h)
+  to_sheet {v} {u} (through {w = w} n h) = through (to_sheet n) (needs_there w u h)
 
   itself : (v : ℕ) → Needs (needs_of rows) v v → circular s v ≡ true
-  itself v n = needed_complete (direct s) (numbers s.rows) (direct_within s) (subst (λ (d : ℕ → List ℕ). Needs d v v) needs_all n)
+  itself v n = needed_complete (direct s) (numbers s.rows) (direct_within s) (to_sheet n)
 
   pub sound_told : IsSound rows
   sound_told =
       record {
         acyclic = λ v row at wants mark n.
-            elim (number_cases v (length s.rows)) [
-              | inl is ↦
-                  let t : IsTold s m.disposed (site_in m.sites.items) (kept_of (start_in xs v)) v row = told.told v row is.0 is.1 at in
-                  mark (eqb-true (Numbered.mark row.present) 2 (is_circular s m.disposed (site_in m.sites.items) (kept_of (start_in xs v)) v row t ∙ itself v n))
-              | inr past ↦ false≢true (sym (ap (λ (x : Row). x.wanted) (told.rest v row past at)) ∙ wants)
+            elim (row_cases v row at) [
+              | inl is ↦ mark (eqb-true (Numbered.mark row.present) 2 (is_circular s m.disposed (site_in m.sites.items) (kept_of (start_in xs v)) v row is ∙ itself v n))
+              | inr none ↦ false≢true (sym (ap (λ (x : Row). x.wanted) none) ∙ wants)
             ];
         starts = λ v row at mark.
-            elim (number_cases v (length s.rows)) [
-              | inl is ↦ none_start s m.disposed (site_in m.sites.items) (kept_of (start_in xs v)) v row (told.told v row is.0 is.1 at) mark
-              | inr past ↦ ap (λ (x : Row). Numbered.starts x.present) (told.rest v row past at)
+            elim (row_cases v row at) [
+              | inl is ↦ none_start s m.disposed (site_in m.sites.items) (kept_of (start_in xs v)) v row is mark
+              | inr none ↦ ap (λ (x : Row). Numbered.starts x.present) none
             ];
         renewals = λ v row at mark.
-            elim (number_cases v (length s.rows)) [
-              | inl is ↦ none_renewed s m.disposed (site_in m.sites.items) (kept_of (start_in xs v)) v row (told.told v row is.0 is.1 at) mark
-              | inr past ↦ ap (λ (x : Row). Numbered.renewals x.present) (told.rest v row past at)
+            elim (row_cases v row at) [
+              | inl is ↦ none_renewed s m.disposed (site_in m.sites.items) (kept_of (start_in xs v)) v row is mark
+              | inr none ↦ ap (λ (x : Row). Numbered.renewals x.present) none
             ];
       }
+
+-- ---- what is touched
+
+module _ (s : Sheet) (loud : List ℕ) (within : (v : ℕ) → has loud v ≡ true → has (numbers s.rows) v ≡ true) (marks : List Bool) (are : AreTouched s loud marks) where
+  -- who needs anything is a variable
+  needs_number : {v u : ℕ} → Needs (direct s) v u → has (numbers s.rows) v ≡ true
+  needs_number {v} {u} (at_once h) = go (nth s.rows v) refl
+    where
+      go : (o : Option VarRow) → nth s.rows v ≡ o → has (numbers s.rows) v ≡ true
+      go (Some row) e = has_number s.rows v row e
+      go None e = absurd (false≢true (ap (λ (l : List ℕ). has l u) (sym (nothing_direct s v e)) ∙ h))
+  needs_number {v} {u} (through n h) = needs_number n
+
+  touched_inside : (v : ℕ) → marked marks v ≡ true → has (numbers s.rows) v ≡ true
+  touched_inside v h = elim (are.only v h) [ inl own ↦ within v own | inr t ↦ needs_number t.2 ]
+
+  -- what needs a touched variable is touched
+  touched_users : (v u : ℕ) → has (direct s v) u ≡ true → marked marks u ≡ true → marked marks v ≡ true
+  touched_users v u h t =
+      let is : (1 ≤ v) × (v < 1 + length s.rows) = range_has 1 (length s.rows) v (needs_number (at_once h)) in
+      are.each v (omega (arith, is.1))
+      (elim (are.only u t) [
+        | inl own ↦ inr (u, own, at_once h)
+        | inr far ↦ inr (far.0, far.1, Needs_trans (direct s) [] (at_once h) far.2)
+      ])
 
 -- ---- a reading of the scene
 
--- what has no row is as a row that was never put says
-module _ (r : Reading) (shaped : Shaped r) (v : ℕ) (past : (v ≡ 0) ⊎ (length r.sheet.rows < v)) where
-  row_none : nth r.sheet.rows v ≡ None
-  row_none = nth_past r.sheet.rows v past
-
-  start_none : start_of r v ≡ None
-  start_none = ap (λ (o : Option (Option Start)). option_then o (λ s. s)) (nth_past r.starts v (subst (λ (n : ℕ). (v ≡ 0) ⊎ (n < v)) (sym shaped) past))
-
-  unwanted : wanted r v ≡ false
-  unwanted =
-      false_from_ne_true (wanted r v) (λ h.
-      let t : (1 ≤ v) × (v < 1 + length r.sheet.rows) = range_has 1 (length r.sheet.rows) v (wanted_has r v h) in
-      elim past [ inl e ↦ omega (arith, e, t.0) | inr more ↦ omega (arith, more, t.1) ])
-
-  footing_none : footing_of (Row.present unput) ≡ footing_at r.sheet (sites_of r) v
-  footing_none =
-      let s = r.sheet in
-      let place : 0 ≡ place_of s v = sym (ap (λ (o : Option VarRow). from_option 0 (λ (row : VarRow). row.place) o) row_none) in
-      let once : false ≡ duplicate s v = sym (ap (λ (o : Option VarRow). from_option false (is_duplicate_row s) o) row_none) in
-      let none : [] ≡ direct s v = sym (nothing_direct s v row_none) in
-      let open_ : false ≡ circular s v = sym (alone_open s v (sym none)) in
-      let inputs_none : [] ≡ map input_code (inputs s v) = sym (ap (map input_code) (nothing_inputs s v row_none)) in
-      let starts_none : [] ≡ cond (circular s v) [] (map (λ (u : ℕ). Site.number (sites_of r u)) (direct s v)) =
-      ap (λ (b : Bool). cond b [] []) open_ ∙ ap (λ (l : List ℕ). cond (circular s v) [] (map (λ (u : ℕ). Site.number (sites_of r u)) l)) none in
-      let renewals_none : [] ≡ cond (circular s v) [] (map (λ (u : ℕ). Site.renewal (sites_of r u)) (direct s v)) =
-      ap (λ (b : Bool). cond b [] []) open_ ∙ ap (λ (l : List ℕ). cond (circular s v) [] (map (λ (u : ℕ). Site.renewal (sites_of r u)) l)) none in
-      ap (λ (p : ℕ). record { place = p; is_duplicate = false; is_circular = false; inputs = []; starts = []; renewals = [] }) place
-      ∙ ap (λ (b : Bool). record { place = place_of s v; is_duplicate = b; is_circular = false; inputs = []; starts = []; renewals = [] }) once
-      ∙ ap (λ (b : Bool). record { place = place_of s v; is_duplicate = duplicate s v; is_circular = b; inputs = []; starts = []; renewals = [] }) open_
-      ∙ ap (λ (l : List ℕ). record { place = place_of s v; is_duplicate = duplicate s v; is_circular = circular s v; inputs = l; starts = []; renewals = [] }) inputs_none
-      ∙ ap (λ (l : List ℕ). record { place = place_of s v; is_duplicate = duplicate s v; is_circular = circular s v; inputs = map input_code (inputs s v); starts = l; renewals = [] }) starts_none
-      ∙ ap (λ (l : List ℕ). record {
-        place = place_of s v;
-        is_duplicate = duplicate s v;
-        is_circular = circular s v;
-        inputs = map input_code (inputs s v);
-        starts = cond (circular s v) [] (map (λ (u : ℕ). Site.number (sites_of r u)) (direct s v));
-        renewals = l;
-      }) renewals_none
-
-  pub unput_told : IsToldOf r v unput
-  unput_told =
-      record {
-        wanted = sym unwanted;
-        later = sym (ap (λ (o : Option Start). Site.later (site_of o)) start_none);
-        present = footing_none;
-        marked = omega arith;
-        needs = sym (nothing_direct r.sheet v row_none);
-        kept = sym (ap kept_of start_none);
-        kept_marked = tt;
-      }
-
-module _ (r : Reading) (s : Sheet) (xs : List (Option Start)) (m : Moment) (scene : IsScene r s xs m) (rows : List Row) (few : length s.rows ≤ 1024) (told : AreTold s xs m (length s.rows) rows) where
+module _ (r : Reading) (s : Sheet) (xs : List (Option Start)) (m : Moment) (scene : IsScene r s xs m) (marks : List Bool) (are : AreTouched s (loud_vars s xs m) marks) (rows : List Row) (few : length s.rows ≤ 1024)
+    (told : AreTold s xs m marks (length s.rows) rows) where
   told_one : (v : ℕ) (row : Row) → IsTold s m.disposed (site_in m.sites.items) (kept_of (start_in xs v)) v row → IsToldOf r v row
   told_one v row t =
       subst (λ (x : Sheet). IsTold x r.disposed (sites_of r) (kept_of (start_of r v)) v row) (sym scene.sheet)
@@ -176,17 +148,28 @@ module _ (r : Reading) (s : Sheet) (xs : List (Option Start)) (m : Moment) (scen
   size_is : length r.sheet.rows ≡ length s.rows
   size_is = ap (λ (x : Sheet). length x.rows) scene.sheet
 
-  pub told_scene : Told r rows
+  -- the loud ones are variables
+  loud_within : (v : ℕ) → has (loud_vars s xs m) v ≡ true → has (numbers s.rows) v ≡ true
+  loud_within v h = (has_filter (λ v. not (quiet_at s xs m v)) (numbers s.rows) v h).0
+
+  inside : (v : ℕ) → marked marks v ≡ true → has (numbers s.rows) v ≡ true
+  inside = touched_inside s (loud_vars s xs m) loud_within marks are
+
+  in_range : (v : ℕ) → has (numbers s.rows) v ≡ true → (1 ≤ v) × (v ≤ length s.rows)
+  in_range v h = let t : (1 ≤ v) × (v < 1 + length s.rows) = range_has 1 (length s.rows) v h in (t.0, omega (arith, t.1))
+
+  still : (v : ℕ) → marked marks v ≡ false → has (loud_vars s xs m) v ≡ true → ⊥
+  still v other h = false≢true (sym other ∙ are.each v (in_range v (loud_within v h)).1 (inl h))
+
+  pub told_scene : Told (marked marks) r rows
   told_scene =
       record {
         size = told.size;
         few = omega (arith, few, size_is);
         shaped = scene.shaped;
-        each = λ v row at.
-            elim (number_cases v (length s.rows)) [
-              | inl is ↦ told_one v row (told.told v row is.0 is.1 at)
-              | inr past ↦
-                  subst (IsToldOf r v) (sym (told.rest v row past at))
-                  (unput_told r scene.shaped v (subst (λ (n : ℕ). (v ≡ 0) ⊎ (n < v)) (sym size_is) past))
-            ];
+        inside = λ v t. ap (λ (x : Sheet). has (numbers x.rows) v) scene.sheet ∙ inside v t;
+        each = λ v row t at. let is : (1 ≤ v) × (v ≤ length s.rows) = in_range v (inside v t) in told_one v row (told.told v row is.0 is.1 t at);
+        rest = λ v row other at. told.rest v row (inr (inr other)) at;
+        quiet = λ v other. quiet_there r s xs m scene v (still v other);
+        users = λ v u h t. touched_users s (loud_vars s xs m) loud_within marks are v u (ap (λ (x : Sheet). has (direct x v) u) (sym scene.sheet) ∙ h) t;
       }

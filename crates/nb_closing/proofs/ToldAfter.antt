@@ -1,15 +1,15 @@
--- A wave that is told of a reading is told of the reading after a step, once it has made the step.
+-- A wave that is told of the touched variables of a reading is told of them after a step, once it has made the step.
 use Rattle.std.proofs.Common.{ℕ, ◌+◌, ◌≡◌, ◌≢◌, ◌<◌, refl, sym, ◌∙◌, ap, subst, Bool, true, false, cond, eqb, List, [], ◌∷◌, length, map, get_or, arith, Option, Some, None, inl, inr}
 use Rattle.std.specs.Prelude.{slice_get, option_map, IfSome}
-use Rattle.std.proofs.lemmas.Bool.{cases_eq, ne_eqb, eq-eqb}
+use Rattle.std.proofs.lemmas.Bool.{cases_eq, ne_eqb, eq-eqb, false≢true, false_from_ne_true}
 use Rattle.std.proofs.lemmas.Option.{slice_get_within, slice_get-get_or}
-use Rattle.nb_graph.specs.Needs.{has}
-use Rattle.nb_sheet.specs.Lists.{nth, numbers}
+use Rattle.nb_sheet.specs.Lists.{nth}
 use Rattle.nb_sheet.specs.Sheet.{Sheet}
 use Rattle.nb_sheet.specs.declared.row.VarRow.{VarRow}
 use Rattle.nb_resolve.specs.Names.{inputs, direct, duplicate}
 use Rattle.nb_wave.specs.declared.row.Row.{Row}
 use Rattle.nb_wave.specs.Steps.{renumbered, resting, rested, ended, begun, stepped}
+use Rattle.nb_wave.specs.Wave.{unput}
 use Rattle.nb_wave.proofs.Stepped.{renumbered_none, Mild, mild_ended, mild_begun, length_stepped, get_stepped_same, get_stepped_other}
 use Rattle.nb_value.specs.declared.value.Value.{Value}
 use Rattle.nb_log.specs.declared.entry.Entry.TheVariants.{Pending, Left}
@@ -24,7 +24,9 @@ use Rattle.nb_runs.specs.Footings.{footing_of, IsMarked}
 use Rattle.nb_closing.specs.declared.site.Site.{Site}
 use Rattle.nb_closing.specs.Sites.{site_of, kept_of}
 use Rattle.nb_closing.specs.Told.{footing_at}
-use Rattle.nb_closing.proofs.ToldRows.{sites_of, IsToldOf, Told, present_told}
+use Rattle.nb_closing.proofs.SitesOf.{sites_of}
+use Rattle.nb_closing.proofs.Quiets.{quiet_of, quiet_same}
+use Rattle.nb_closing.proofs.ToldRows.{IsToldOf, Told, present_told}
 
 -- ---- numbers of sites that change
 
@@ -94,10 +96,10 @@ pub record IsChange (r : Reading) (v n : ℕ) (f : Row → Row) (x : Option Star
 abbrev pub with_one : Reading → ℕ → Option Start → ℕ → Reading
 with_one r v x size = counted (with_start r v x) size
 
-module _ (r : Reading) (rows : List Row) (told : Told r rows) (v n size : ℕ) (there : has (numbers r.sheet.rows) v ≡ true) (f : Row → Row) (x : Option Start) (change : IsChange r v n f x) where
+module _ (touched : ℕ → Bool) (r : Reading) (rows : List Row) (told : Told touched r rows) (v n size : ℕ) (here : touched v ≡ true) (f : Row → Row) (x : Option Start) (change : IsChange r v n f x) where
   start_itself : start_of (with_one r v x size) v ≡ x
   start_itself =
-      let row : (y : VarRow) × (nth r.sheet.rows v ≡ Some y) = number_has r.sheet.rows v there in
+      let row : (y : VarRow) × (nth r.sheet.rows v ≡ Some y) = number_has r.sheet.rows v (told.inside v here) in
       let o : (y : Option Start) × (nth r.starts v ≡ Some y) = nth_as_long r.sheet.rows r.starts v row.0 told.shaped row.1 in
       start_put r.starts v x o.0 o.1
 
@@ -148,40 +150,65 @@ module _ (r : Reading) (rows : List Row) (told : Told r rows) (v n size : ℕ) (
         kept_marked = is.kept_marked;
       }
 
-  pub told_changed : Told (with_one r v x size) (stepped f v n rows)
+  -- a variable that isn't touched is another one
+  still_other : (w : ℕ) → touched w ≡ false → v ≢ w
+  still_other w other e = false≢true (sym other ∙ (ap touched (sym e) ∙ here))
+
+  quiet_then : (w : ℕ) → touched w ≡ false → quiet_of (with_one r v x size) w ≡ true
+  quiet_then w other =
+      let same : (u : ℕ) → touched u ≡ false → sites_of r u ≡ sites_of (with_one r v x size) u = λ u k. ap site_of (sym (start_else u (still_other u k))) in
+      sym (quiet_same r.sheet r.disposed (sites_of r) (sites_of (with_one r v x size)) (kept_of (start_of r w)) (kept_of (start_of (with_one r v x size) w)) w (same w other)
+      (λ u h. same u (false_from_ne_true (touched u) (λ t. false≢true (sym other ∙ told.users w u h t))))
+      (ap kept_of (sym (start_else w (still_other w other)))))
+      ∙ told.quiet w other
+
+  pub told_changed : Told touched (with_one r v x size) (stepped f v n rows)
   told_changed =
       record {
         size = length_stepped f change.mild v n rows ∙ told.size;
         few = told.few;
         shaped = length_put r.starts v x ∙ told.shaped;
-        each = λ w new at.
-            let inside : w < length rows = omega (arith, slice_get_within (stepped f v n rows) w new at, length_stepped f change.mild v n rows) in
-            row_then w new at (get_or rows w new, slice_get-get_or rows w new inside);
+        inside = told.inside;
+        each = λ w new t at. row_then w new t at (old_at w new at);
+        rest = λ w new other at. rest_then w new other at (old_at w new at);
+        quiet = quiet_then;
+        users = told.users;
       }
     where
-      row_then : (w : ℕ) (new : Row) → slice_get (stepped f v n rows) w ≡ Some new → (row : Row) × (slice_get rows w ≡ Some row) → IsToldOf (with_one r v x size) w new
-      row_then w new at old =
+      old_at : (w : ℕ) (new : Row) → slice_get (stepped f v n rows) w ≡ Some new → (row : Row) × (slice_get rows w ≡ Some row)
+      old_at w new at =
+          let inside : w < length rows = omega (arith, slice_get_within (stepped f v n rows) w new at, length_stepped f change.mild v n rows) in
+          (get_or rows w new, slice_get-get_or rows w new inside)
+
+      row_then : (w : ℕ) (new : Row) → touched w ≡ true → slice_get (stepped f v n rows) w ≡ Some new → (row : Row) × (slice_get rows w ≡ Some row) → IsToldOf (with_one r v x size) w new
+      row_then w new t at old =
           elim (cases_eq v w) [
             | inl same ↦
-                let old_at : slice_get rows v ≡ Some old.0 = ap (slice_get rows) same ∙ old.1 in
-                let there : slice_get (stepped f v n rows) v ≡ Some (rested v n (f old.0)) = get_stepped_same f change.mild v n rows old.0 old_at in
+                let old_row : slice_get rows v ≡ Some old.0 = ap (slice_get rows) same ∙ old.1 in
+                let there : slice_get (stepped f v n rows) v ≡ Some (rested v n (f old.0)) = get_stepped_same f change.mild v n rows old.0 old_row in
                 let new_at : slice_get (stepped f v n rows) v ≡ Some new = ap (slice_get (stepped f v n rows)) same ∙ at in
                 let e : rested v n (f old.0) ≡ new = cc in
-                let is : IsToldOf (with_one r v x size) v new = subst (IsToldOf (with_one r v x size) v) e (told_itself old.0 (told.each v old.0 old_at)) in
+                let is : IsToldOf (with_one r v x size) v new = subst (IsToldOf (with_one r v x size) v) e (told_itself old.0 (told.each v old.0 here old_row)) in
                 subst (λ (y : ℕ). IsToldOf (with_one r v x size) y new) same is
             | inr other ↦
                 let there : slice_get (stepped f v n rows) w ≡ Some (rested v n old.0) = get_stepped_other f change.mild v n rows w old.0 other old.1 in
                 let e : rested v n old.0 ≡ new = cc in
-                subst (IsToldOf (with_one r v x size) w) e (told_other w other old.0 (told.each w old.0 old.1))
+                subst (IsToldOf (with_one r v x size) w) e (told_other w other old.0 (told.each w old.0 t old.1))
           ]
+
+      rest_then : (w : ℕ) (new : Row) → touched w ≡ false → slice_get (stepped f v n rows) w ≡ Some new → (row : Row) × (slice_get rows w ≡ Some row) → new ≡ unput
+      rest_then w new other at old =
+          let there : slice_get (stepped f v n rows) w ≡ Some (rested v n old.0) = get_stepped_other f change.mild v n rows w old.0 (still_other w other) old.1 in
+          let e : new ≡ rested v n old.0 = cc in
+          e ∙ ap (rested v n) (told.rest w old.0 other old.1)
 
 -- ---- the steps
 
-module _ (r : Reading) (rows : List Row) (told : Told r rows) (v : ℕ) (d : List Value) (there : has (numbers r.sheet.rows) v ≡ true) where
-  pub told_pending : (place : ℕ) → place ≡ r.entries + 1 → Told (after r (Pending v d)) (stepped begun v place rows)
+module _ (touched : ℕ → Bool) (r : Reading) (rows : List Row) (told : Told touched r rows) (v : ℕ) (d : List Value) (here : touched v ≡ true) where
+  pub told_pending : (place : ℕ) → place ≡ r.entries + 1 → Told touched (after r (Pending v d)) (stepped begun v place rows)
   told_pending place at =
-      subst (λ (p : ℕ). Told (after r (Pending v d)) (stepped begun v p rows)) (sym at)
-      (told_changed r rows told v (r.entries + 1) (entry_size (Pending v d)) there begun (Some (new_start (r.entries + 1) (footing r v)))
+      subst (λ (p : ℕ). Told touched (after r (Pending v d)) (stepped begun v p rows)) (sym at)
+      (told_changed touched r rows told v (r.entries + 1) (entry_size (Pending v d)) here begun (Some (new_start (r.entries + 1) (footing r v)))
       (record {
         mild = mild_begun;
         number = refl;
@@ -191,7 +218,7 @@ module _ (r : Reading) (rows : List Row) (told : Told r rows) (v : ℕ) (d : Lis
         marked = λ row is. is.marked;
       }))
 
-  pub told_left : Told (after r (Left v d)) (stepped ended v 0 rows)
+  pub told_left : Told touched (after r (Left v d)) (stepped ended v 0 rows)
   told_left =
-      told_changed r rows told v 0 (entry_size (Left v d)) there ended None
+      told_changed touched r rows told v 0 (entry_size (Left v d)) here ended None
       (record { mild = mild_ended; number = refl; renewal = refl; later = λ row. refl; kept = λ row is. refl; marked = λ row is. tt })

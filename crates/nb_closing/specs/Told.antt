@@ -1,5 +1,5 @@
 -- What a wave is told of the variables of a sheet.
-use Rattle.std.specs.Prelude.{ℕ, ⊤, ◌≡◌, ◌≤◌, ◌<◌, ◌⊎◌, Bool, cond, not, ◌&&◌, List, [], length, map, Option, None, Some, IfSome, IsSome, option_map, slice_get}
+use Rattle.std.specs.Prelude.{ℕ, ⊤, ◌≡◌, ◌≤◌, ◌<◌, ◌⊎◌, Bool, true, false, cond, not, ◌&&◌, List, [], length, map, Option, None, Some, IfSome, IsSome, option_map, slice_get}
 use Rattle.nb_sheet.specs.Sheet.{Sheet}
 use Rattle.nb_resolve.specs.Names.{inputs, direct, duplicate}
 use Rattle.nb_wave.specs.declared.footing.Footing.{Footing as Numbered}
@@ -7,6 +7,7 @@ use Rattle.nb_wave.specs.declared.row.Row.{Row}
 use Rattle.nb_wave.specs.declared.step.Step.{Step as WaveStep}
 use Rattle.nb_wave.specs.declared.step.Step.TheVariants.{Left, Pending}
 use Rattle.nb_wave.specs.Rules.{from_option}
+use Rattle.nb_wave.specs.Marks.{marked}
 use Rattle.nb_wave.specs.Steps.{changed}
 use Rattle.nb_wave.specs.Wave.{unput, kept_row, kept_of as kept_in, IsNumber}
 use Rattle.nb_history.specs.Needs.{circular, is_used}
@@ -49,11 +50,11 @@ pub record IsTold (s : Sheet) (disposed : Bool) (site : ℕ → Site) (start : O
   pub kept : option_map footing_of row.kept ≡ start
   pub kept_marked : IfSome row.kept IsMarked
 
--- the first k variables are told, and no other
-pub record AreTold (s : Sheet) (starts : List (Option Start)) (moment : Moment) (k : ℕ) (rows : List Row) : Type 0 where
+-- those of the first k variables are told that are marked, and no other
+pub record AreTold (s : Sheet) (starts : List (Option Start)) (moment : Moment) (marks : List Bool) (k : ℕ) (rows : List Row) : Type 0 where
   pub size : length rows ≡ 1025
-  pub told : (v : ℕ) (row : Row) → 1 ≤ v → v ≤ k → slice_get rows v ≡ Some row → IsTold s moment.disposed (site_in moment.sites.items) (kept_of (start_in starts v)) v row
-  pub rest : (v : ℕ) (row : Row) → (v ≡ 0) ⊎ (k < v) → slice_get rows v ≡ Some row → row ≡ unput
+  pub told : (v : ℕ) (row : Row) → 1 ≤ v → v ≤ k → marked marks v ≡ true → slice_get rows v ≡ Some row → IsTold s moment.disposed (site_in moment.sites.items) (kept_of (start_in starts v)) v row
+  pub rest : (v : ℕ) (row : Row) → (v ≡ 0) ⊎ ((k < v) ⊎ (marked marks v ≡ false)) → slice_get rows v ≡ Some row → row ≡ unput
 
 -- a row whose start rests on this, where it has one
 abbrev pub keeping : Option Numbered → Row → Row

@@ -75,8 +75,10 @@ impl Closer {
     }
 
     /// The steps by which a log closes, in their order, where its reading has this sheet, starts that rest on what these
-    /// do, and the sites of the moment. It fails only without memory. It costs a pass over the variables and what each
-    /// rests on, and what `Wave::close` costs.
+    /// do, and the sites of the moment. It fails only without memory. It costs a look at each input of each variable, and
+    /// takes no memory where all are quiet: idle and not wanted, or wanted and started on what they rest on now, and none at
+    /// a later pull. Else it also costs a few passes over variables and what they need, a copy of what those that aren't
+    /// quiet and all that need them rest on, and what `Wave::close` costs.
     pub fn plan(
         &mut self,
         sheet: &Sheet,

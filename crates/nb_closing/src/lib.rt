@@ -5,10 +5,12 @@ mod closer;
 mod inputs;
 mod names;
 mod planning;
+mod quiet;
 mod site;
 mod step;
 mod telling;
 mod ties;
+mod touching;
 
 pub use closer::Closer;
 pub use site::{Moment, Site, sites};

@@ -1,5 +1,5 @@
 ghost use Rattle.std.specs.Prelude.{◌≡◌, IfOk, map};
-ghost use Rattle.nb_closing.specs.Sites.{site_of};
+ghost use Rattle.nb_closing.specs.Sites.{site_of, site_in};
 
 use nb_runs::Started;
 use std::alloc::{AllocError, Global};
@@ -53,4 +53,22 @@ pub fn sites(alloc: Global, starts: &Vec<Option<Started>>) -> Result<Vec<Site>, 
         all.push(Site::of(&starts[k]))?;
     }
     Ok(all)
+}
+
+/// A variable's site, and that of an idle variable where there is none.
+pub(crate) fn site_at(sites: &Vec<Site>, v: u32) -> Site
+    ensures { result ≡ site_in sites.now.items v }
+{
+    let idle = Site {
+        number: 0,
+        renewal: 0,
+        later: false,
+    };
+    if v == 0 {
+        return idle;
+    }
+    match sites.get(v as usize - 1) {
+        None => idle,
+        Some(site) => *site,
+    }
 }

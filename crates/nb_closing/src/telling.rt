@@ -1,15 +1,16 @@
 //! What a wave is told of the variables of a sheet.
 
-ghost use Rattle.std.specs.Prelude.{◌≡◌, ◌≤◌, ◌<◌, ◌+◌, ◌&&◌, not, [], cond, map, length, IfOk, OnOk};
+ghost use Rattle.std.specs.Prelude.{◌≡◌, ◌≤◌, ◌<◌, ◌+◌, ◌&&◌, true, not, [], cond, map, length, IfOk, OnOk};
 ghost use Rattle.nb_history.specs.Rules.{place_of};
 ghost use Rattle.nb_runs.specs.Footings.{footing_of, IsMarked};
 ghost use Rattle.nb_runs.specs.Starts.{start_in};
+ghost use Rattle.nb_wave.specs.Marks.{marked};
 ghost use Rattle.nb_wave.specs.Wave.{no_rows, IsNumber};
 ghost use Rattle.nb_closing.specs.Ties.{ties_of, all_ties};
 ghost use Rattle.nb_closing.specs.Sites.{site_in, kept_of};
 ghost use Rattle.nb_closing.specs.Told.{mark_of, footing_at, AreTold, IsKept};
 
-use crate::site::{Moment, Site};
+use crate::site::{Moment, Site, site_at};
 use crate::ties::Ties;
 use nb_runs::Started;
 use nb_runs::starts::start_at;
@@ -18,26 +19,8 @@ use nb_value::Numbers;
 use nb_wave::{Footing, Wave};
 use std::alloc::{AllocError, Global};
 
-/// A variable's site, and that of an idle variable where there is none.
-fn site_at(sites: &Vec<Site>, v: u32) -> Site
-    ensures { result ≡ site_in sites.now.items v }
-{
-    let idle = Site {
-        number: 0,
-        renewal: 0,
-        later: false,
-    };
-    if v == 0 {
-        return idle;
-    }
-    match sites.get(v as usize - 1) {
-        None => idle,
-        Some(site) => *site,
-    }
-}
-
 /// The place of a variable's body, 0 where it has none.
-fn place_at(sheet: &Sheet, v: u32) -> u64
+pub(crate) fn place_at(sheet: &Sheet, v: u32) -> u64
     ensures { result ≡ place_of sheet.now.sheet v }
 {
     match sheet.variable(v) {
@@ -133,13 +116,13 @@ fn keep_start(
 }
 
 /// Whether a variable is wanted: it is used, and the notebook isn't disposed of.
-fn is_wanted(ties: &Ties, moment: &Moment) -> bool
+pub(crate) fn is_wanted(ties: &Ties, moment: &Moment) -> bool
     ensures { result ≡ (not moment.now.disposed && ties.now.is_used) }
 {
     !moment.disposed && ties.is_used()
 }
 
-/// Tells a wave of the next variable, where it is told of the first k and no other.
+/// Tells a wave of the next variable, which is touched, where it is told of those among the first k and of no other.
 fn tell_one(
     alloc: Global,
     wave: &mut Wave,
@@ -147,13 +130,15 @@ fn tell_one(
     ties: &Ties,
     starts: &Vec<Option<Started>>,
     moment: &Moment,
+    touched: &[bool],
     k: u32,
 ) -> Result<(), AllocError>
     requires row { k < length sheet.now.sheet.rows }
     requires few { length sheet.now.sheet.rows ≤ 1024 }
     requires ties { ties.now ≡ ties_of sheet.now.sheet (k + 1) }
-    requires told { AreTold sheet.now.sheet starts.now.items moment.now k wave.old.rows }
-    ensures told { OnOk result (AreTold sheet.now.sheet starts.now.items moment.now (k + 1) wave.new.rows) }
+    requires touched { marked touched.now (k + 1) ≡ true }
+    requires told { AreTold sheet.now.sheet starts.now.items moment.now touched.now k wave.old.rows }
+    ensures told { OnOk result (AreTold sheet.now.sheet starts.now.items moment.now touched.now (k + 1) wave.new.rows) }
     ensures marked { wave.new.marked ≡ wave.old.marked }
 {
     let v = k + 1;
@@ -165,8 +150,8 @@ fn tell_one(
     Ok(())
 }
 
-/// Tells a wave of each variable, where it is told of none. It fails only without memory. It costs a pass over the variables
-/// and what each rests on.
+/// Tells a wave of each variable that is touched, where it is told of none. It fails only without memory. It costs a pass
+/// over the marks, and over what each touched variable rests on.
 pub fn tell(
     alloc: Global,
     wave: &mut Wave,
@@ -174,16 +159,22 @@ pub fn tell(
     ties: &Vec<Ties>,
     starts: &Vec<Option<Started>>,
     moment: &Moment,
+    touched: &[bool],
 ) -> Result<(), AllocError>
     requires ties { ties.now.items ≡ all_ties sheet.now.sheet }
+    requires touched { length touched.now ≡ length sheet.now.sheet.rows + 1 }
     requires rows { wave.old.rows ≡ no_rows }
     ensures few { length sheet.now.sheet.rows ≤ 1024 }
-    ensures told { OnOk result (AreTold sheet.now.sheet starts.now.items moment.now (length sheet.now.sheet.rows) wave.new.rows) }
+    ensures told { OnOk result (AreTold sheet.now.sheet starts.now.items moment.now touched.now (length sheet.now.sheet.rows) wave.new.rows) }
     ensures marked { wave.new.marked ≡ wave.old.marked }
 {
     let n = sheet.rows().len();
     for k in 0..n {
-        tell_one(alloc, wave, sheet, &ties[k], starts, moment, k as u32)?;
+        if touched[k + 1] {
+            tell_one(
+                alloc, wave, sheet, &ties[k], starts, moment, touched, k as u32,
+            )?;
+        }
     }
     Ok(())
 }

@@ -1,28 +1,14 @@
-use Rattle.std.proofs.Common.{◌∙◌, sym, ap, subst, List, map}
-use Rattle.std.specs.Prelude.{slice_get}
-use Rattle.nb_wave.specs.declared.step.Step.{Step as WaveStep}
+use Rattle.std.proofs.Common.{◌≡◌, [], sym, subst}
 use Rattle.nb_closing.specs.Plan.{Plans}
-use Rattle.nb_closing.specs.Told.{step_in}
-use Rattle.nb_closing.proofs.Sound.{sound_told, told_scene}
-use Rattle.nb_closing.proofs.StartsKept.{all_start}
-use Rattle.nb_closing.proofs.Planned.{plans_from}
+use Rattle.nb_closing.specs.Quiet.{loud_vars}
+use Rattle.nb_closing.proofs.Planned.{plans_none}
 use Rattle.nb_closing.proofs.planning.planned.Goals as goal
 
-pub close-requires-clause-sound : goal.close-requires-clause-sound
-close-requires-clause-sound c =
-    sound_told c.args.sheet.now.sheet c.args.starts.now.items c.args.moment.now c.tell.new.wave.rows c.in_ok-tell.ensures.few c.in_ok-tell.ensures.told
-
-pub steps_of-requires : goal.steps_of-requires
-steps_of-requires c =
-    λ i s h.
-    all_start c.in_ok-steps.steps.items c.tell.new.wave.rows c.close.new.self.rows c.args.moment.now.place c.in_ok-tell.ensures.told.size
-    c.in_ok-steps.ensures.closes.runs c.in_ok-steps.ensures.closes.once i s (ap (λ (l : List WaveStep). slice_get l i) (sym c.deref.ensures.value) ∙ h)
-
-pub returns-clause-plans : goal.returns-clause-plans
-returns-clause-plans c =
+pub returns-in-None-clause-plans : goal.returns-in-None-clause-plans
+returns-in-None-clause-plans c =
     λ r scene.
-    let closes = c.in_ok-steps.ensures.closes in
-    subst (Plans r) (sym (c.in_ok-all.ensures ∙ ap (map (step_in c.close.new.self.rows)) c.deref.ensures.value))
-    (plans_from c.in_ok-steps.steps.items r c.tell.new.wave.rows c.close.new.self.rows c.args.moment.now.place
-    (told_scene r c.args.sheet.now.sheet c.args.starts.now.items c.args.moment.now scene c.tell.new.wave.rows c.in_ok-tell.ensures.few c.in_ok-tell.ensures.told)
-    scene.place closes.runs closes.ends closes.once)
+    let s = c.args.sheet.now.sheet in
+    let xs = c.args.starts.now.items in
+    let m = c.args.moment.now in
+    let none : loud_vars s xs m ≡ [] = rw c.in-None.is at c.in_ok-touched.ensures in
+    subst (Plans r) (sym c.new.ensures.items) (plans_none r s xs m scene none)

@@ -18,7 +18,7 @@ returns-clause-told c =
     let m = c.args.moment.now in
     let k = c.args.k in
     let inside : k < 1024 = omega (arith, c.requires.row, c.requires.few) in
-    told_more s c.args.starts.now.items m k inside c.args.wave.now.rows c.put.new.self.rows c.keep_start.new.wave.rows c.requires.told
+    told_more s c.args.starts.now.items m c.args.touched.now k inside c.args.wave.now.rows c.put.new.self.rows c.keep_start.new.wave.rows c.requires.told c.requires.touched
     c.is_wanted-wanted.result (Site.later c.site_at-later.result) c.in_ok-present.present c.deref.result.now
     (c.is_wanted-wanted.ensures ∙ ap (λ (t : Ties). not m.disposed && t.is_used) c.requires.ties)
     (ap (λ (x : Site). x.later) c.site_at-later.ensures) c.in_ok-present.ensures.footing c.in_ok-present.ensures.marked
