@@ -3,12 +3,14 @@
 
 mod closer;
 mod planning;
+mod resting;
 mod site;
 mod step;
 mod telling;
 mod ties;
 
 pub use closer::Closer;
+pub use resting::footing;
 pub use site::{Moment, Site, sites};
 pub use step::Step;
 pub use ties::{Ties, tie};
