@@ -4,6 +4,7 @@ pub mod Planned
 pub mod Putting
 pub mod SameFootings
 pub mod Sound
+pub mod StartSites
 pub mod StartsKept
 pub mod Tables
 pub mod ToldAfter
