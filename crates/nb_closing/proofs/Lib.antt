@@ -7,6 +7,7 @@ pub mod Quiets
 pub mod SameFootings
 pub mod SitesOf
 pub mod Sound
+pub mod StartSites
 pub mod StartsKept
 pub mod Tables
 pub mod ToldAfter

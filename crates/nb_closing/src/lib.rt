@@ -6,6 +6,7 @@ mod inputs;
 mod names;
 mod planning;
 mod quiet;
+mod resting;
 mod site;
 mod step;
 mod telling;
@@ -13,6 +14,7 @@ mod ties;
 mod touching;
 
 pub use closer::Closer;
+pub use resting::footing;
 pub use site::{Moment, Site, sites};
 pub use step::Step;
 pub use ties::{Ties, tie};

@@ -71,7 +71,7 @@ fn renewals(alloc: Global, ties: &Ties, sites: &Vec<Site>) -> Result<Numbers, Al
 }
 
 /// What a variable rests on where the variables have these sites.
-fn present(
+pub(crate) fn present(
     alloc: Global,
     sheet: &Sheet,
     ties: &Ties,

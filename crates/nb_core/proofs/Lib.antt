@@ -7,6 +7,7 @@ pub mod Loads
 pub mod Looks
 pub mod Plans
 pub mod Plus
+pub mod Replays
 pub mod Runs
 pub mod Scenes
 pub mod Steps

@@ -1,4 +1,5 @@
 pub mod Codes
 pub mod Core
+pub mod Parts
 pub mod Sites
 pub mod Stands

@@ -1,7 +1,9 @@
 ghost use Rattle.std.specs.Prelude.{◌≡◌, ◌≤◌, ◌<◌, ◌^◌, ◌+◌, [], length, IfOk, OnOk};
 ghost use Rattle.nb_history.specs.History.{standing, plus};
 ghost use Rattle.nb_core.specs.Core.{gate as gate_of};
+ghost use Rattle.nb_core.specs.Parts.{AreParts};
 
+use crate::replayed::Reading;
 use nb_log::{Entry, Event, Log, Refusal};
 use nb_runs::{Started, Ticket};
 use nb_sheet::Sheet;
@@ -177,6 +179,20 @@ impl Machine {
             Some(Refusal::LogFull)
         } else {
             None
+        }
+    }
+
+    // ---- taken apart
+
+    /// What the log leaves. The log itself is let go of.
+    pub fn into_reading(self) -> Reading
+        ensures { AreParts result (standing self.history) }
+    {
+        Reading {
+            sheet: self.sheet,
+            starts: self.starts,
+            disposed: self.disposed,
+            tickets: self.tickets,
         }
     }
 }

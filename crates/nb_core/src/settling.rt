@@ -1,30 +1,13 @@
-ghost use Rattle.std.specs.Prelude.{◌≡◌, ◌<◌, true, IfOk, OnOk, OnErr};
+ghost use Rattle.std.specs.Prelude.{◌≡◌, ◌<◌, true, OnOk, OnErr};
 ghost use Rattle.nb_history.specs.History.{standing, IsClosedHistory};
 ghost use Rattle.nb_history.specs.Rules.{ready as ready_of, next};
 ghost use Rattle.nb_history.specs.Work.{to_do};
 ghost use Rattle.nb_core.specs.Core.{Gains, SettlesSoFar, Settles, RestsOnScratch};
-ghost use Rattle.nb_eval.specs.Work.{IsOf};
 
 use crate::calls::Core;
-use nb_eval::{Work, WorkDone, evaluate};
-use std::alloc::{AllocError, Global};
+use crate::doing::done_of;
+use std::alloc::AllocError;
 use std::mem::drop;
-
-/// Does the work.
-fn done_of(alloc: Global, work: Work) -> Result<WorkDone, AllocError>
-    ensures { IfOk result (λ done. IsOf work done) }
-{
-    match work {
-        Work::Direct(outcome) => Ok(WorkDone::Direct(outcome)),
-        Work::Run(segment) => match evaluate(alloc, segment) {
-            Ok(finished) => Ok(WorkDone::Ran(finished)),
-            Err((segment, refused)) => {
-                drop(segment);
-                Err(refused)
-            }
-        },
-    }
-}
 
 /// Does the work of a ready variable.
 fn step(core: &mut Core, var: u32) -> Result<(), AllocError>

@@ -7,3 +7,5 @@
 mod embedding;
 #[cfg(test)]
 mod machine;
+#[cfg(test)]
+mod replaying;

@@ -1,7 +1,7 @@
 ghost use Rattle.std.specs.Prelude.{◌≡◌, ◌<◌, ◌≤◌, ◌+◌, ◌^◌, true, length, IfOk, IfErr, IsTrue, ◌↔◌};
 ghost use Rattle.nb_eval.specs.Work.{IsOf};
 ghost use Rattle.nb_sheet.specs.Lists.{from_option};
-ghost use Rattle.nb_history.specs.History.{standing, plus, IsClosedHistory};
+ghost use Rattle.nb_history.specs.History.{standing, IsClosedHistory};
 ghost use Rattle.nb_history.specs.Reading.{Start};
 ghost use Rattle.nb_history.specs.Log.{after};
 ghost use Rattle.nb_history.specs.Rules.{ready as ready_of, next};
@@ -9,7 +9,6 @@ ghost use Rattle.nb_runs.specs.Starts.{start_in};
 ghost use Rattle.nb_closing.specs.Plan.{Plans};
 ghost use Rattle.nb_closing.specs.Sites.{IsScene};
 ghost use Rattle.nb_closing.specs.Ties.{all_ties};
-ghost use Rattle.nb_work.specs.Notices.{IsNotice};
 ghost use Rattle.nb_work.specs.Work.{work_of};
 ghost use Rattle.nb_core.specs.Core.{Gains, Places};
 ghost use Rattle.nb_core.specs.Sites.{is_outcome, stopped_site, stopped_at};
@@ -22,7 +21,7 @@ use nb_eval::{WorkDone, is_work_of};
 use nb_log::Entry;
 use nb_runs::Started;
 use nb_runs::starts::start_at;
-use nb_work::{Notice, entry_of, notice_of};
+use nb_work::{entry_of, notice_of};
 use std::alloc::{AllocError, Global};
 use std::mem::drop;
 
@@ -78,7 +77,7 @@ impl Core {
         match prepare(self.alloc, &mut self.machine, &mut self.closer, var, &done) {
             Ok((entry, steps)) => {
                 let notice = notice_of(self.machine.sheet(), self.machine.starts(), var, done);
-                enter(&mut self.machine, var, entry, notice);
+                self.machine.enter(var, entry, notice);
                 self.machine.commit(steps);
                 Ok(place)
             }
@@ -198,26 +197,4 @@ fn stop_at(sites: &mut Vec<Site>, var: u32, shows: bool, place: u64)
         return;
     }
     stop(&mut sites[var as usize - 1], shows, place);
-}
-
-/// Adds the entry of a notice. It takes no memory.
-fn enter(machine: &mut Machine, var: u32, entry: Entry, notice: Notice)
-    requires room { 0 < machine.old.room }
-    requires next { entry ≡ next (standing machine.old.history) var }
-    requires notice { IsNotice (standing machine.old.history) (length (standing machine.old.history).tickets + 1) var notice }
-    ensures entry { machine.new.history ≡ plus machine.old.history entry }
-    ensures room { machine.old.room ≤ machine.new.room + 1 }
-{
-    match notice {
-        Notice::Shows {
-            outcome,
-            cleanups,
-            ends,
-        } => machine.show(var, entry, outcome, cleanups, ends),
-        Notice::Asks { key, cleanups } => machine.ask(var, entry, key, cleanups),
-        Notice::Ends { cleanups } => {
-            drop(entry);
-            machine.end(var, cleanups);
-        }
-    }
 }

@@ -14,7 +14,7 @@ use nb_wave::Footing;
 
 impl Machine {
     /// A variable leaves: its start is thrown away, and what it owes goes into the log.
-    fn leave(&mut self, var: u32)
+    pub fn leave(&mut self, var: u32)
         requires room { 0 < self.old.room }
         ensures entry { self.new.history ≡ plus self.old.history (Entry.Left var (owed (standing self.old.history) var)) }
         ensures room { self.old.room ≤ self.new.room + 1 }
@@ -25,7 +25,7 @@ impl Machine {
     }
 
     /// A variable starts on what it rests on now: its old start is thrown away, and what that owes goes into the log.
-    fn pend(&mut self, var: u32, kept: Footing)
+    pub fn pend(&mut self, var: u32, kept: Footing)
         requires room { 0 < self.old.room }
         requires kept { footing_of kept ≡ footing (standing self.old.history) var }
         requires marked { IsMarked kept }

@@ -1,6 +1,6 @@
-ghost use Rattle.std.specs.Prelude.{◌≡◌, ◌≤◌, ◌+◌, ◌-◌, ◌++◌, None, length, replicate, vec_len, vec_capacity, IfOk, IfErr, OnOk, OnErr};
+ghost use Rattle.std.specs.Prelude.{◌≡◌, ◌≤◌, ◌<◌, ◌+◌, ◌-◌, ◌++◌, None, length, replicate, vec_len, vec_capacity, IfOk, IfErr, OnOk, OnErr};
 ghost use Rattle.nb_sheet.specs.Sheet.{refusal, edited_sheet};
-ghost use Rattle.nb_history.specs.History.{standing};
+ghost use Rattle.nb_history.specs.History.{standing, plus};
 ghost use Rattle.nb_history.specs.Reading.{Reading};
 ghost use Rattle.nb_closing.specs.Ties.{all_ties};
 ghost use Rattle.nb_closing.specs.Plan.{Plans};
@@ -50,6 +50,24 @@ fn pad(starts: &mut Vec<Option<Started>>, more: usize)
     for _ in 0..more {
         starts.push_reserved(None);
     }
+}
+
+/// New variables get their place among the starts, with room for one entry more. Where memory runs out, nothing has changed.
+fn add_places(
+    sheet: &Sheet,
+    starts: &mut Vec<Option<Started>>,
+    log: &mut Log,
+) -> Result<(), AllocError>
+    ensures starts { OnOk result (starts.new.items ≡ starts.old.items ++ replicate (length sheet.now.sheet.rows - length starts.old.items) None) }
+    ensures room { OnOk result (0 < log.new.room) }
+    ensures entries { log.new.entries ≡ log.old.entries }
+    ensures err { OnErr result (starts.new.items ≡ starts.old.items) }
+{
+    let more = sheet.rows().len().saturating_sub(starts.len());
+    starts.reserve(more)?;
+    log.reserve(1)?;
+    pad(starts, more);
+    Ok(())
 }
 
 /// The steps of what closes after an edit that made this sheet, with room for them and the edit's entry. New variables get
@@ -123,6 +141,27 @@ impl Machine {
                 closer.go_back(old);
                 self.sheet.undo();
                 Err((edit, refused))
+            }
+        }
+    }
+
+    /// Does an edit that isn't refused, and nothing of what closes. It fails only without memory; then nothing has changed.
+    pub fn edit_alone(&mut self, editor: u8, edit: Edit) -> Result<(), AllocError>
+        requires { refusal (standing self.old.history).sheet edit ≡ None }
+        ensures ok { OnOk result (self.new.history ≡ plus self.old.history (Entry.Edit editor edit)) }
+        ensures err { OnErr result (self.new.history ≡ self.old.history) }
+    {
+        let place = self.log.len() + 1;
+        self.sheet.mark();
+        nb_derive::apply(self.alloc, &mut self.sheet, &edit, place)?;
+        match add_places(&self.sheet, &mut self.starts, &mut self.log) {
+            Ok(()) => {
+                self.log.push(Entry::Edit { editor, edit });
+                Ok(())
+            }
+            Err(refused) => {
+                self.sheet.undo();
+                Err(refused)
             }
         }
     }

@@ -1,13 +1,16 @@
 ghost use Rattle.std.specs.Prelude.{◌≡◌, ◌≤◌, ◌<◌, ◌+◌, length};
 ghost use Rattle.nb_history.specs.History.{standing, plus};
 ghost use Rattle.nb_history.specs.Log.{cleanups_now, ends_at_once};
-ghost use Rattle.nb_work.specs.Notices.{shown_entry};
+ghost use Rattle.nb_history.specs.Rules.{next};
+ghost use Rattle.nb_work.specs.Notices.{shown_entry, IsNotice};
 
 use crate::machine::Machine;
 use nb_log::Entry;
 use nb_runs::Ticket;
 use nb_runs::starts::{ask_in, end_in, number_of, put_start, show_in, take};
 use nb_value::{Items, Outcome, Text, Value};
+use nb_work::Notice;
+use std::mem::drop;
 
 impl Machine {
     /// A variable shows an outcome. `entry` goes into the log.
@@ -66,5 +69,27 @@ impl Machine {
         end_in(&mut start, cleanups);
         put_start(&mut self.starts, var, start);
         self.log.push(Entry::Ended { var });
+    }
+
+    /// Adds the entry of a notice, the next one of a variable. It takes no memory.
+    pub fn enter(&mut self, var: u32, entry: Entry, notice: Notice)
+        requires room { 0 < self.old.room }
+        requires next { entry ≡ next (standing self.old.history) var }
+        requires notice { IsNotice (standing self.old.history) (length (standing self.old.history).tickets + 1) var notice }
+        ensures entry { self.new.history ≡ plus self.old.history entry }
+        ensures room { self.old.room ≤ self.new.room + 1 }
+    {
+        match notice {
+            Notice::Shows {
+                outcome,
+                cleanups,
+                ends,
+            } => self.show(var, entry, outcome, cleanups, ends),
+            Notice::Asks { key, cleanups } => self.ask(var, entry, key, cleanups),
+            Notice::Ends { cleanups } => {
+                drop(entry);
+                self.end(var, cleanups);
+            }
+        }
     }
 }

@@ -28,19 +28,19 @@ commit-requires-clause-room c = omega (arith, c.in-Ok.ensures.room, c.enter.ensu
 
 pub commit-requires-clause-plans : goal.commit-requires-clause-plans
 commit-requires-clause-plans c =
-    plans_then c.self.inside.machine.history c.args.self.now c.prepare.new.machine.history c.enter.new.machine.history c.enter.new.machine.history c.args.var c.in-Ok.entry c.in-Ok.steps.items
+    plans_then c.self.inside.machine.history c.args.self.now c.prepare.new.machine.history c.enter.new.self.history c.enter.new.self.history c.args.var c.in-Ok.entry c.in-Ok.steps.items
     c.self.view_is c.prepare.ensures.history c.in-Ok.ensures.entry c.in-Ok.ensures.plans c.enter.ensures.entry
 
 pub invariant_of-self : goal.invariant_of-self
 invariant_of-self c =
-    core_after c.self.inside.machine.history c.args.self.now c.prepare.new.machine.history c.enter.new.machine.history c.commit.new.self.history c.args.var c.in-Ok.entry c.in-Ok.steps.items
+    core_after c.self.inside.machine.history c.args.self.now c.prepare.new.machine.history c.enter.new.self.history c.commit.new.self.history c.args.var c.in-Ok.entry c.in-Ok.steps.items
     c.self.view_is c.prepare.ensures.history c.in-Ok.ensures.entry c.in-Ok.ensures.plans c.enter.ensures.entry c.self.invariant.0 c.requires.ready c.commit.ensures
     c.self.inside.closer c.prepare.new.closer c.self.invariant.1 c.prepare.ensures.closer
 
 pub returns-in-Ok-clause-ok : goal.returns-in-Ok-clause-ok
 returns-in-Ok-clause-ok c = (
   ap (λ (n : ℕ). n + 1) (c.len-place.ensures.value ∙ ap (λ (h : History). length h.log) c.self.view_is),
-  gains_now c.self.inside.machine.history c.args.self.now c.prepare.new.machine.history c.enter.new.machine.history c.commit.new.self.history c.args.var c.in-Ok.entry c.in-Ok.steps.items
+  gains_now c.self.inside.machine.history c.args.self.now c.prepare.new.machine.history c.enter.new.self.history c.commit.new.self.history c.args.var c.in-Ok.entry c.in-Ok.steps.items
       c.self.view_is c.prepare.ensures.history c.in-Ok.ensures.entry c.in-Ok.ensures.plans c.enter.ensures.entry c.self.invariant.0 c.requires.ready c.commit.ensures,
 )
 

@@ -1,0 +1,154 @@
+-- A legal log, replayed entry by entry.
+use Rattle.std.proofs.Common.{ℕ, ◌≡◌, ◌+◌, ◌<◌, ◌≤◌, ◌^◌, arith, refl, sym, ◌∙◌, ap, subst, Bool, true, false, cond, List, [], ◌∷◌, ◌++◌, length, append-nil, Option, Some, None, option_map}
+use Rattle.std.proofs.lemmas.Bool.{false≢true, and_parts, not}
+use Rattle.std.proofs.lemmas.Option.{none-some, same_Some}
+use Rattle.std.specs.List.{list_any}
+use Rattle.nb_value.specs.declared.value.Value.{Value}
+use Rattle.nb_value.specs.declared.pairs.Field.{Field}
+use Rattle.nb_value.specs.declared.outcome.Answer.{Answer}
+use Rattle.nb_sheet.specs.Sheet.{refusal}
+use Rattle.nb_sheet.specs.Lists.{Name, numbers, nth, from_option, or_else}
+use Rattle.nb_sheet.specs.declared.edit.Edit.{Edit as SheetEdit}
+use Rattle.nb_sheet.specs.declared.refused.Refused.{Refused as Against}
+use Rattle.nb_log.specs.Refused.{refusal_of}
+use Rattle.nb_log.specs.declared.event.Event.{Event}
+use Rattle.nb_log.specs.declared.event.Event.TheVariants.{Edit as EditEvent, Frame as FrameEvent, Settle, Rest as RestEvent, Dispose as DisposeEvent}
+use Rattle.nb_log.specs.declared.event.Target.TheVariants.{Ticket as ByTicket, Key as ByKey}
+use Rattle.nb_log.specs.declared.entry.Refusal.{Refusal}
+use Rattle.nb_log.specs.declared.entry.Entry.{Entry}
+use Rattle.nb_log.specs.declared.entry.Entry.TheVariants.{Edit, Frame, Settled, Late, Loaded, Refused, Rest, Dispose, Pending, Fulfilled, Rejected, Asked, Ended, Left}
+use Rattle.nb_graph.specs.Needs.{has}
+use Rattle.nb_history.specs.Needs.{circular, needed}
+use Rattle.nb_history.specs.Reading.{Reading, owed}
+use Rattle.nb_history.specs.Rules.{due, may_start}
+use Rattle.nb_history.specs.Log.{nothing_yet, reading, after, admit, admitted, first_refusal, event_refusal, is_live, IsOfEvent, Fits, LegalFrom, IsLegal}
+use Rattle.nb_history.specs.History.{History, standing, plus, plus_all}
+use Rattle.nb_history.proofs.Admits.{admit_refused, admit_taken, first_of_all}
+use Rattle.nb_history.proofs.Closing.{due_has, range_has}
+use Rattle.nb_history.proofs.Plus.{standing_plus, plus_more}
+use Rattle.nb_closing.specs.Ties.{Ties, all_ties}
+use Rattle.nb_core.specs.Core.{gate}
+use Rattle.nb_core.specs.declared.replayed.Reading.{Reading as Parts}
+use Rattle.nb_core.specs.Parts.{AreParts, is_edit}
+use Rattle.nb_core.proofs.Admitted.{few_entries}
+
+-- ---- an entry of an event that is no refusal
+
+abbrev is_refused : Entry → Bool
+is_refused (Refused editor reason event) = true
+is_refused e = false
+
+not_refused : (r : Reading) (editor : ℕ) (event : Event) (e : Entry) → e ≡ admit r editor event → is_refused e ≡ false → first_refusal r event ≡ None
+not_refused r editor event e is taken = go (first_refusal r event) refl
+  where
+    go : (o : Option Refusal) → first_refusal r event ≡ o → first_refusal r event ≡ None
+    go None h = h
+    go (Some reason) h = absurd (false≢true (sym taken ∙ ap is_refused (is ∙ admit_refused r editor event reason h)))
+
+or_none : (a b : Option Refusal) → or_else a b ≡ None → (a ≡ None) × (b ≡ None)
+or_none None b h = (refl, h)
+or_none (Some x) b h = absurd (none-some x (sym h))
+
+-- neither for what every event is refused for, nor for a reason of its own
+own_reasons : (r : Reading) (editor : ℕ) (event : Event) (e : Entry) → e ≡ admit r editor event → is_refused e ≡ false → (gate r ≡ None) × (event_refusal r event ≡ None)
+own_reasons r editor event e is taken = or_none (gate r) (event_refusal r event) (sym (first_of_all r event) ∙ not_refused r editor event e is taken)
+
+-- so a log that a frame fits is short
+pub frame_few : (h : History) (editor : ℕ) → Fits (standing h) (Frame editor) → length h.log + 1 < 2 ^ 32
+frame_few h editor fits =
+    let of : IsOfEvent (standing h) (Frame editor) = fits.1 in
+    few_entries h (own_reasons (standing h) of.0 of.1 (Frame editor) of.3 refl).0
+
+-- ---- an edit that fits isn't refused
+
+map_none : (o : Option Against) → option_map refusal_of o ≡ None → o ≡ None
+map_none None h = refl
+map_none (Some x) h = absurd (none-some (refusal_of x) (sym h))
+
+abbrev edit_in : Entry → Option SheetEdit
+edit_in (Edit editor edit) = Some edit
+edit_in e = None
+
+edit_taken : (r : Reading) (by editor : ℕ) (event : Event) (edit : SheetEdit) → Edit editor edit ≡ admitted r by event → event_refusal r event ≡ None → refusal r.sheet edit ≡ None
+edit_taken r by editor (EditEvent other) edit h none = ap (refusal r.sheet) (same_Some edit other (ap edit_in h)) ∙ map_none (refusal r.sheet other) none
+edit_taken r by editor FrameEvent edit h none = absurd (none-some edit (sym (ap edit_in h)))
+edit_taken r by editor (Settle (ByTicket t) a) edit h none = absurd (go (is_live r t) (ap edit_in h))
+  where
+    go : (b : Bool) → Some edit ≡ edit_in (cond b (Settled by t a) (Late by t)) → ⊥
+    go true h = none-some edit (sym h)
+    go false h = none-some edit (sym h)
+edit_taken r by editor (Settle (ByKey key) a) edit h none = absurd (none-some edit (sym (ap edit_in h)))
+edit_taken r by editor RestEvent edit h none = absurd (none-some edit (sym (ap edit_in h)))
+edit_taken r by editor DisposeEvent edit h none = absurd (none-some edit (sym (ap edit_in h)))
+
+pub edit_admitted : (r : Reading) (editor : ℕ) (edit : SheetEdit) → Fits r (Edit editor edit) → refusal r.sheet edit ≡ None
+edit_admitted r editor edit fits =
+    let of : IsOfEvent r (Edit editor edit) = fits.1 in
+    edit_taken r of.0 editor of.1 edit
+    (of.3 ∙ admit_taken r of.0 of.1 (not_refused r of.0 of.1 (Edit editor edit) of.3 refl)) (own_reasons r of.0 of.1 (Edit editor edit) of.3 refl).1
+
+-- ---- what starts is a variable of the sheet
+
+pub starts_there : (r : Reading) (v : ℕ) → may_start r v ≡ true → (1 ≤ v) × (v ≤ length r.sheet.rows)
+starts_there r v may =
+    let is_due : due r v ≡ true = (and_parts (due r v) _ may).0 in
+    let within : (1 ≤ v) × (v < 1 + length r.sheet.rows) = range_has 1 (length r.sheet.rows) v (due_has r v is_due) in
+    (within.0, omega (arith, within.1))
+
+-- ---- the sheet, and so its ties, stay but at an edit
+
+other_sheet : (r : Reading) (e : Entry) → is_edit e ≡ false → (after r e).sheet ≡ r.sheet
+other_sheet r (Edit editor edit) h = absurd (false≢true (sym h))
+other_sheet r (Frame editor) h = refl
+other_sheet r (Settled editor t a) h = refl
+other_sheet r (Late editor t) h = refl
+other_sheet r (Loaded t a) h = refl
+other_sheet r (Refused editor reason event) h = refl
+other_sheet r (Rest editor) h = refl
+other_sheet r (Dispose editor) h = refl
+other_sheet r (Pending v d) h = refl
+other_sheet r (Fulfilled v x) h = refl
+other_sheet r (Rejected v e) h = refl
+other_sheet r (Asked v t key) h = refl
+other_sheet r (Ended v) h = refl
+other_sheet r (Left v d) h = refl
+
+pub ties_stay : (h new : History) (e : Entry) (ties : List Ties) → new ≡ plus h e → is_edit e ≡ false → ties ≡ all_ties (standing h).sheet → ties ≡ all_ties (standing new).sheet
+ties_stay h new e ties is other tied =
+    tied ∙ ap all_ties (sym (ap (λ (g : History). (standing g).sheet) is ∙ ap (λ (r : Reading). r.sheet) (standing_plus h e) ∙ other_sheet (standing h) e other))
+
+-- ---- the whole log
+
+-- the history of the entries so far, and the ties of its sheet, where these entries are left of a legal log
+pub record IsReplayed (builtins : List (Field Value)) (log left : List Entry) (h : History) (ties : List Ties) : Type 0 where
+  pub whole : plus_all h left ≡ record { builtins = builtins; log = log }
+  pub legal : LegalFrom (standing h) left
+  pub tied : ties ≡ all_ties (standing h).sheet
+
+pub replay_begins : (builtins : List (Field Value)) (log : List Entry) (h : History) (ties : List Ties) → IsLegal builtins log → h ≡ record { builtins = builtins; log = [] } → ties ≡ []
+    → IsReplayed builtins log log h ties
+replay_begins builtins log h ties legal is none = record {
+  whole = ap (λ (g : History). plus_all g log) is;
+  legal = subst (λ (g : History). LegalFrom (standing g) log) (sym is) legal;
+  tied = none ∙ sym (ap (λ (g : History). all_ties (standing g).sheet) is);
+}
+
+-- the first of those that are left fits
+pub replay_fits : (builtins : List (Field Value)) (log left rest : List Entry) (e : Entry) (h : History) (ties : List Ties) → left ≡ e ∷ rest → IsReplayed builtins log left h ties → Fits (standing h) e
+replay_fits builtins log left rest e h ties split so_far = (subst (LegalFrom (standing h)) split so_far.legal).0
+
+-- with it, the others are left
+pub replay_goes_on : (builtins : List (Field Value)) (log left rest : List Entry) (e : Entry) (h new : History) (ties ties' : List Ties) → left ≡ e ∷ rest → IsReplayed builtins log left h ties
+    → new ≡ plus h e → ties' ≡ all_ties (standing new).sheet → IsReplayed builtins log rest new ties'
+replay_goes_on builtins log left rest e h new ties ties' split so_far is tied = record {
+  whole = ap (λ (g : History). plus_all g rest) is ∙ plus_more h e rest ∙ ap (plus_all h) (sym split) ∙ so_far.whole;
+  legal = subst (λ (r : Reading). LegalFrom r rest) (sym (ap standing is ∙ standing_plus h e)) (subst (LegalFrom (standing h)) split so_far.legal).1;
+  tied = tied;
+}
+
+-- and when none is left, the whole log stands
+pub replay_ends : (builtins : List (Field Value)) (log left : List Entry) (h : History) (ties : List Ties) (parts : Parts) → left ≡ [] → IsReplayed builtins log left h ties → AreParts parts (standing h)
+    → AreParts parts (reading builtins log)
+replay_ends builtins log left h ties parts none so_far are =
+    let whole : h ≡ record { builtins = builtins; log = log } = ap (λ (l : List Entry). record h { log = l }) (sym (append-nil h.log)) ∙ ap (plus_all h) (sym none) ∙ so_far.whole in
+    subst (AreParts parts) (ap standing whole) are
