@@ -10,7 +10,7 @@ use Rattle.nb_runs.specs.Starts.{start_in}
 use Rattle.nb_closing.specs.declared.site.Site.{Site}
 use Rattle.nb_closing.specs.Sites.{idle_site, site_of, site_in}
 use Rattle.nb_closing.specs.Told.{footing_at}
-use Rattle.nb_closing.proofs.ToldRows.{sites_of, footing_told}
+use Rattle.nb_closing.proofs.SitesOf.{sites_of, footing_told}
 
 pub nth_map : {A B : Type 0} (f : A → B) (xs : List A) (v : ℕ) → nth (map f xs) v ≡ option_map f (nth xs v)
 nth_map f xs zero = refl
