@@ -1,7 +1,8 @@
 -- A legal log, replayed entry by entry.
-use Rattle.std.proofs.Common.{ℕ, ◌≡◌, ◌+◌, ◌<◌, ◌≤◌, ◌^◌, arith, refl, sym, ◌∙◌, ap, subst, Bool, true, false, cond, List, [], ◌∷◌, ◌++◌, length, append-nil, Option, Some, None, option_map}
-use Rattle.std.proofs.lemmas.Bool.{false≢true, and_parts, not}
+use Rattle.std.proofs.Common.{ℕ, suc, ◌≡◌, ◌+◌, ◌<◌, ◌≤◌, ◌^◌, arith, refl, sym, ◌∙◌, ap, subst, Bool, true, false, cond, List, [], ◌∷◌, ◌++◌, length, drop, get_or, append-nil, Option, Some, None, option_map}
+use Rattle.std.proofs.lemmas.Bool.{false≢true, and_parts}
 use Rattle.std.proofs.lemmas.Option.{none-some, same_Some}
+use Rattle.std.proofs.Math.Seq.{drop-cons}
 use Rattle.std.specs.List.{list_any}
 use Rattle.nb_value.specs.declared.value.Value.{Value}
 use Rattle.nb_value.specs.declared.pairs.Field.{Field}
@@ -125,13 +126,21 @@ pub record IsReplayed (builtins : List (Field Value)) (log left : List Entry) (h
   pub legal : LegalFrom (standing h) left
   pub tied : ties ≡ all_ties (standing h).sheet
 
-pub replay_begins : (builtins : List (Field Value)) (log : List Entry) (h : History) (ties : List Ties) → IsLegal builtins log → h ≡ record { builtins = builtins; log = [] } → ties ≡ []
-    → IsReplayed builtins log log h ties
-replay_begins builtins log h ties legal is none = record {
-  whole = ap (λ (g : History). plus_all g log) is;
-  legal = subst (λ (g : History). LegalFrom (standing g) log) (sym is) legal;
-  tied = none ∙ sym (ap (λ (g : History). all_ties (standing g).sheet) is);
-}
+pub replay_begins : (builtins copied : List (Field Value)) (log left : List Entry) (h : History) (ties : List Ties) → IsLegal builtins log → left ≡ log → copied ≡ builtins
+    → h ≡ record { builtins = copied; log = [] } → ties ≡ [] → IsReplayed builtins log left h ties
+replay_begins builtins copied log left h ties legal all same is none =
+    let here : h ≡ record { builtins = builtins; log = [] } = is ∙ ap (λ (b : List (Field Value)). record { builtins = b; log = [] }) same in
+    record {
+      whole = ap (λ (g : History). plus_all g left) here ∙ ap (λ (l : List Entry). record { builtins = builtins; log = l }) all;
+      legal = subst (λ (g : History). LegalFrom (standing g) left) (sym here) (subst (IsLegal builtins) (sym all) legal);
+      tied = none ∙ sym (ap (λ (g : History). all_ties (standing g).sheet) here);
+    }
+
+-- the entries from a place on are the one there and those after it
+pub next_left : (log : List Entry) (i : ℕ) (e : Entry) → i < length log → e ≡ get_or log i e → drop i log ≡ e ∷ drop (i + 1) log
+next_left log i e less is =
+    let one : suc i ≡ i + 1 = omega arith in
+    drop-cons log i e less ∙ ap (λ (x : Entry). x ∷ drop (suc i) log) (sym is) ∙ ap (λ (n : ℕ). e ∷ drop n log) one
 
 -- the first of those that are left fits
 pub replay_fits : (builtins : List (Field Value)) (log left rest : List Entry) (e : Entry) (h : History) (ties : List Ties) → left ≡ e ∷ rest → IsReplayed builtins log left h ties → Fits (standing h) e

@@ -30,7 +30,13 @@ fn replay_edit(
     ensures { OnOk result (machine.new.history ≡ plus machine.old.history (Entry.Edit editor edit.now)) }
 {
     let edit = edit.copy(alloc)?;
-    machine.edit_alone(editor, edit)
+    match machine.edit_alone(editor, edit) {
+        Ok(()) => Ok(()),
+        Err((edit, refused)) => {
+            drop(edit);
+            Err(refused)
+        }
+    }
 }
 
 fn replay_frame(machine: &mut Machine, editor: u8) -> Result<(), AllocError>

@@ -70,6 +70,33 @@ fn add_places(
     Ok(())
 }
 
+/// Does an edit, whose entry is the log's next. New variables get their place among the starts, and there is room for the
+/// entry. Where memory runs out, nothing has changed.
+fn change_alone(
+    alloc: Global,
+    sheet: &mut Sheet,
+    starts: &mut Vec<Option<Started>>,
+    log: &mut Log,
+    edit: &Edit,
+) -> Result<(), AllocError>
+    requires admitted { refusal sheet.old.sheet edit.now ≡ None }
+    ensures sheet { OnOk result (sheet.new.sheet ≡ edited_sheet sheet.old.sheet edit.now (length log.old.entries + 1)) }
+    ensures starts { OnOk result (starts.new.items ≡ starts.old.items ++ replicate (length sheet.new.sheet.rows - length starts.old.items) None) }
+    ensures room { OnOk result (0 < log.new.room) }
+    ensures entries { log.new.entries ≡ log.old.entries }
+    ensures err { OnErr result ((sheet.new.sheet ≡ sheet.old.sheet) × (starts.new.items ≡ starts.old.items)) }
+{
+    sheet.mark();
+    nb_derive::apply(alloc, sheet, edit, log.len() + 1)?;
+    match add_places(sheet, starts, log) {
+        Ok(()) => Ok(()),
+        Err(refused) => {
+            sheet.undo();
+            Err(refused)
+        }
+    }
+}
+
 /// The steps of what closes after an edit that made this sheet, with room for them and the edit's entry. New variables get
 /// their place among the starts. Where memory runs out, nothing has changed.
 fn prepare(
@@ -145,24 +172,25 @@ impl Machine {
         }
     }
 
-    /// Does an edit that isn't refused, and nothing of what closes. It fails only without memory; then nothing has changed.
-    pub fn edit_alone(&mut self, editor: u8, edit: Edit) -> Result<(), AllocError>
+    /// Does an edit that isn't refused, and nothing of what closes. It fails only without memory; then nothing has changed,
+    /// and the edit comes back.
+    pub fn edit_alone(&mut self, editor: u8, edit: Edit) -> Result<(), (Edit, AllocError)>
         requires { refusal (standing self.old.history).sheet edit ≡ None }
         ensures ok { OnOk result (self.new.history ≡ plus self.old.history (Entry.Edit editor edit)) }
-        ensures err { OnErr result (self.new.history ≡ self.old.history) }
+        ensures err { IfErr result (λ refused. (refused.0 ≡ edit) × (self.new.history ≡ self.old.history)) }
     {
-        let place = self.log.len() + 1;
-        self.sheet.mark();
-        nb_derive::apply(self.alloc, &mut self.sheet, &edit, place)?;
-        match add_places(&self.sheet, &mut self.starts, &mut self.log) {
+        match change_alone(
+            self.alloc,
+            &mut self.sheet,
+            &mut self.starts,
+            &mut self.log,
+            &edit,
+        ) {
             Ok(()) => {
                 self.log.push(Entry::Edit { editor, edit });
                 Ok(())
             }
-            Err(refused) => {
-                self.sheet.undo();
-                Err(refused)
-            }
+            Err(refused) => Err((edit, refused)),
         }
     }
 }

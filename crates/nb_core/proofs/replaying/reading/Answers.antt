@@ -1,30 +1,34 @@
-use Rattle.std.proofs.Common.{rules, ◌≡◌, ◌≤◌, true, length, IfOk, OnOk, ℕ, ◌+◌, ◌-◌, ◌*◌, ◌<◌, ◌/◌, ◌%◌, Bool, false, nat_eq, nat_lt, List, [], ◌∷◌, ◌++◌, slice_index_or, slice_set, bit_and, bit_or, w8, w32, w64, Bor, MutBor}
-use Rattle.nb_history.specs.History.{standing, plus}
-use Rattle.nb_history.specs.Log.{reading as reading_of}
-use Rattle.nb_history.specs.Log.{Fits, IsLegal}
-use Rattle.nb_history.specs.Reading.{owed}
-use Rattle.nb_history.specs.Rules.{ready, may_start, next}
-use Rattle.nb_closing.specs.Ties.{all_ties}
-use Rattle.nb_core.specs.Parts.{AreParts}
-use Rattle.nb_core.specs.Parts.{is_edit as edits}
+use Rattle.std.proofs.Common.{◌≡◌, ◌+◌, ◌∷◌, List, drop, arith}
+use Rattle.std.proofs.lemmas.List.{drop_all}
+use Rattle.nb_log.specs.declared.entry.Entry.{Entry}
+use Rattle.nb_core.proofs.Replays.{replay_begins, next_left, replay_fits, replay_goes_on, replay_ends}
 use Rattle.nb_core.proofs.replaying.reading.Goals as goal
 
--- src/replaying.rt:245:5
 pub loop-entry-init : goal.loop-entry-init
-loop-entry-init c = ?
+loop-entry-init c =
+    replay_begins c.args.builtins.now c.in_ok-copy.field-0 c.args.log.now.entries c.as_slice-entry-items.result.now c.in_ok-machine.machine.history c.new-ties.result.items c.requires.legal
+    c.as_slice-entry-items.ensures c.in_ok-copy.ensures c.in_ok-machine.ensures c.new-ties.ensures.items
 
--- src/replaying.rt:246:9
 pub replay_next-requires-clause-ties : goal.replay_next-requires-clause-ties
-replay_next-requires-clause-ties c = ?
+replay_next-requires-clause-ties c = c.loop-entry.invariant.tied
 
--- src/replaying.rt:246:9
 pub replay_next-requires-clause-fits : goal.replay_next-requires-clause-fits
-replay_next-requires-clause-fits c = ?
+replay_next-requires-clause-fits c =
+    let items = c.as_slice-entry-items.result.now in
+    let i = c.loop-entry.entry-index in
+    replay_fits c.args.builtins.now c.args.log.now.entries (drop i items) (drop (i + 1) items) c.entry-item.result c.loop-entry.machine.history c.loop-entry.ties.items
+    (next_left items i c.entry-item.result c.loop-entry-test.true c.entry-item.is) c.loop-entry.invariant
 
--- src/replaying.rt:245:5
 pub loop-entry-preserved : goal.loop-entry-preserved
-loop-entry-preserved c = ?
+loop-entry-preserved c =
+    let items = c.as_slice-entry-items.result.now in
+    let i = c.loop-entry.entry-index in
+    replay_goes_on c.args.builtins.now c.args.log.now.entries (drop i items) (drop (i + 1) items) c.entry-item.result c.loop-entry.machine.history c.replay_next.new.machine.history c.loop-entry.ties.items c.replay_next.new.ties.items
+    (next_left items i c.entry-item.result c.loop-entry-test.true c.entry-item.is) c.loop-entry.invariant c.in_ok-replay_next.ensures.entry c.in_ok-replay_next.ensures.ties
 
--- src/replaying.rt:234:1
 pub returns : goal.returns
-returns c = ?
+returns c =
+    let items = c.as_slice-entry-items.result.now in
+    let i = c.loop-entry.entry-index in
+    replay_ends c.args.builtins.now c.args.log.now.entries (drop i items) c.loop-entry.machine.history c.loop-entry.ties.items c.into_reading.result
+    (drop_all i items (omega (arith, c.loop-entry-test.false))) c.loop-entry.invariant c.into_reading.ensures

@@ -1,14 +1,8 @@
-use Rattle.std.proofs.Common.{rules, ◌≡◌, ◌≤◌, true, length, IfOk, OnOk, ℕ, ◌+◌, ◌-◌, ◌*◌, ◌<◌, ◌/◌, ◌%◌, Bool, false, nat_eq, nat_lt, List, [], ◌∷◌, ◌++◌, slice_index_or, slice_set, bit_and, bit_or, w8, w32, w64, Bor, MutBor}
-use Rattle.nb_history.specs.History.{standing, plus}
-use Rattle.nb_history.specs.Log.{reading as reading_of}
-use Rattle.nb_history.specs.Log.{Fits, IsLegal}
-use Rattle.nb_history.specs.Reading.{owed}
-use Rattle.nb_history.specs.Rules.{ready, may_start, next}
-use Rattle.nb_closing.specs.Ties.{all_ties}
-use Rattle.nb_core.specs.Parts.{AreParts}
-use Rattle.nb_core.specs.Parts.{is_edit as edits}
+use Rattle.std.proofs.Common.{◌<◌, ◌+◌, ◌^◌, length, subst, sym}
+use Rattle.nb_history.specs.History.{History}
+use Rattle.nb_core.proofs.Replays.{frame_few}
 use Rattle.nb_core.proofs.replaying.replay_frame.Goals as goal
 
--- src/replaying.rt:41:5
 pub frame-requires-clause-few : goal.frame-requires-clause-few
-frame-requires-clause-few c = ?
+frame-requires-clause-few c =
+    subst (λ (h : History). length h.log + 1 < 2 ^ 32) (sym c.reserve.ensures.same) (frame_few c.args.machine.now.history c.args.editor c.requires)

@@ -1,17 +1,14 @@
-use Rattle.std.proofs.Common.{rules, ◌≡◌, ◌≤◌, ◌<◌, ◌+◌, ◌-◌, ◌++◌, None, length, replicate, vec_len, vec_capacity, IfOk, IfErr, OnOk, OnErr, ℕ, ◌*◌, ◌/◌, ◌%◌, Bool, true, false, nat_eq, nat_lt, List, [], ◌∷◌, slice_index_or, slice_set, bit_and, bit_or, Fits, w8, w32, w64, Bor, MutBor}
-use Rattle.nb_sheet.specs.Sheet.{refusal, edited_sheet}
-use Rattle.nb_history.specs.History.{standing, plus}
-use Rattle.nb_history.specs.Reading.{Reading}
-use Rattle.nb_closing.specs.Ties.{all_ties}
-use Rattle.nb_closing.specs.Plan.{Plans}
-use Rattle.nb_core.specs.Core.{Gains}
-use Rattle.nb_core.specs.Stands.{room_of, HasParts}
+use Rattle.std.proofs.Common.{◌≡◌, ◌∙◌, ap, refl, ◌+◌, length, List, [], ◌∷◌, ◌++◌}
+use Rattle.nb_log.specs.declared.entry.Entry.{Entry}
+use Rattle.nb_log.specs.declared.entry.Entry.TheVariants.{Edit}
+use Rattle.nb_core.specs.Stands.{Kept}
+use Rattle.nb_core.proofs.Edits.{stands_edited}
 use Rattle.nb_core.proofs.machine.Machine.edit_alone.Goals as goal
 
--- src/machine/editing.rt:160:17
-pub invariant_of-self-in-Ok : goal.invariant_of-self-in-Ok
-invariant_of-self-in-Ok c = ?
-
--- src/machine/editing.rt:149:5
-pub returns-in-Err-clause-err : goal.returns-in-Err-clause-err
-returns-in-Err-clause-err c = ?
+pub invariant_of-self : goal.invariant_of-self
+invariant_of-self c =
+    let m = c.self.inside in
+    stands_edited c.args.self.now.history m.sheet.sheet c.change_alone.new.sheet.sheet m.starts.items m.disposed m.tickets.items m.log.entries c.push.new.self.entries c.args.editor c.args.edit (length m.log.entries + 1)
+    (ap (λ (k : Kept). k.history) c.self.view_is) c.self.invariant refl c.in-Ok.ensures.sheet
+    (c.push.ensures.entries ∙ ap (λ (l : List Entry). l ++ Edit c.args.editor c.args.edit ∷ []) c.change_alone.ensures.entries)
+    c.change_alone.new.starts.items m.tickets.items c.in-Ok.ensures.starts refl
