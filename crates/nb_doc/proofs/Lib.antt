@@ -1,1 +1,3 @@
 pub mod SpecifierLemmas
+pub mod FailLemmas
+pub mod CountLemmas

@@ -1,5 +1,5 @@
 -- The items of a module: cells, and imports from modules.
-use Rattle.std.specs.Prelude.{ℕ, ◌+◌, Bool, true, false, List, [], ◌∷◌, Option, Some, None, is_none, option_map, option_and_then, if◌then◌else◌}
+use Rattle.std.specs.Prelude.{ℕ, suc, ◌+◌, Bool, true, false, List, [], ◌∷◌, Option, Some, None, is_none, option_map, option_and_then, if◌then◌else◌}
 use Rattle.std.specs.Option.{option_or}
 use Rattle.std.specs.Fmt.{decimal}
 use Rattle.serde_json.specs.Data.{Data, Items, no_items, item}
@@ -32,7 +32,7 @@ array_case fault (Some ds) = fault ds
 -- how many elements there are
 abbrev pub count : Items → ℕ
 count no_items = 0
-count (item d ds) = 1 + count ds
+count (item d ds) = suc (count ds)
 
 -- ---- one item
 

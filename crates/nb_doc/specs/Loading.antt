@@ -1,5 +1,5 @@
 -- The loaders of a document, and its builtins.
-use Rattle.std.specs.Prelude.{ℕ, ◌+◌, ◌&&◌, Bool, not, List, [], ◌∷◌, ◌++◌, length, Option, Some, None, is_some, option_map, option_and_then, unwrap_or, nat_le, if◌then◌else◌}
+use Rattle.std.specs.Prelude.{ℕ, suc, ◌+◌, ◌&&◌, Bool, not, List, [], ◌∷◌, ◌++◌, length, Option, Some, None, is_some, option_map, option_and_then, unwrap_or, nat_le, if◌then◌else◌}
 use Rattle.std.specs.Option.{option_or}
 use Rattle.std.specs.List.{list_any}
 use Rattle.std.specs.Str.{bytes_eq}
@@ -93,7 +93,7 @@ members_fault (member k d ms) = option_or (member_fault k d) (members_fault ms)
 
 abbrev pub member_count : Members → ℕ
 member_count no_members = 0
-member_count (member k d ms) = 1 + member_count ms
+member_count (member k d ms) = suc (member_count ms)
 
 abbrev pub most_builtins : ℕ
 most_builtins = 65536

@@ -19,12 +19,7 @@ pub struct Around {
 pub fn place_of(names: &[Text], name: &str) -> Option<usize>
     ensures { result ≡ place_of names.now name.now }
 {
-    for (i, known) in names.iter().enumerate() {
-        if known.as_str() == name {
-            return Some(i);
-        }
-    }
-    None
+    names.iter().position(|known| known.as_str() == name)
 }
 
 /// No modules yet.
@@ -41,7 +36,7 @@ pub fn no_modules(alloc: Global, named: bool) -> Around
 /// Has one module more, with this name if modules have names.
 pub fn enter(alloc: Global, around: &mut Around, name: Option<&str>) -> Result<(), AllocError>
     requires { around.old.modules < 2 ^ 63 }
-    ensures { OnOk result (around.new ≡ around_of around.old.named (around.old.names ++ listed (option_map (λ s. s.now) name)) (around.old.modules + 1)) }
+    ensures { OnOk result (around.new ≡ around_of around.old.named (around.old.names ++ listed (option_map (λ s. s.now) name.entry)) (around.old.modules + 1)) }
 {
     if let Some(name) = name {
         around.names.push(Text::from_str(alloc, name)?)?;

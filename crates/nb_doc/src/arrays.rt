@@ -7,6 +7,7 @@ use serde_json::Value as Tree;
 use std::alloc::AllocError;
 
 /// How many elements an array has.
+#[tactic(auto, using(crate::proofs::CountLemmas::count_items))]
 pub fn count(items: &[Tree]) -> usize
     ensures { result ≡ count_of (items_view items.now) }
 {

@@ -7,7 +7,7 @@ ghost use Rattle.nb_doc.specs.Faults.{Fails};
 ghost use Rattle.nb_doc.specs.Forms.{may, field_fault};
 ghost use Rattle.nb_doc.specs.Loading.{member_fault, members_fault, member_count, few_members_fault, builtins_fault, builtins_in, builtins_of};
 
-use crate::fail::{within, wrong};
+use crate::fail::{within, within_field, wrong};
 use crate::form::Field;
 use crate::reason::DocFail;
 use nb_lexer::is_name;
@@ -48,6 +48,7 @@ fn each_member(alloc: Global, members: &Map<String, Tree>) -> Result<Pairs<Value
 }
 
 /// How many members an object has.
+#[tactic(auto, using(crate::proofs::CountLemmas::count_members))]
 fn member_count(members: &Map<String, Tree>) -> usize
     ensures { result ≡ member_count (members_view members.now.entries) }
 {
@@ -75,7 +76,7 @@ pub fn builtins_field(alloc: Global, tree: &Tree) -> Result<Pairs<Value>, DocFai
     match tree.get(Field::Builtins.name()) {
         Some(found) => match read_builtins(alloc, found) {
             Ok(builtins) => Ok(builtins),
-            Err(fail) => Err(within(alloc, Field::Builtins.name(), fail)),
+            Err(fail) => Err(within_field(alloc, Field::Builtins, fail)),
         },
         None => Ok(Pairs::new(alloc)),
     }

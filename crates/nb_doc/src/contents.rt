@@ -9,7 +9,7 @@ ghost use Rattle.nb_doc.specs.Forms.{needs, may, field_fault};
 ghost use Rattle.nb_doc.specs.Contents.{name_fault, name_at, alias_or, truth_fault, observed_or, text_fault, cell_fault, cell_in, cell_at, reference_in as reference_in_data, reference_fault, reference_at, with_fault, with_at};
 
 use crate::around::{Around, place_of};
-use crate::fail::{here, missing, within, wrong, wrong_at};
+use crate::fail::{here, missing, within_field, wrong, wrong_at};
 use crate::form::Field;
 use crate::reason::{DocFail, DocReason};
 use crate::specifiers::specifiers_in;
@@ -88,7 +88,7 @@ pub fn cell(alloc: Global, tree: &Tree) -> Result<Cell, DocFail>
     match tree.get(Field::Cell.name()) {
         Some(found) => match cell_of_tree(alloc, found) {
             Ok(cell) => Ok(cell),
-            Err(fail) => Err(within(alloc, Field::Cell.name(), fail)),
+            Err(fail) => Err(within_field(alloc, Field::Cell, fail)),
         },
         None => Err(missing(alloc, Field::Cell)),
     }

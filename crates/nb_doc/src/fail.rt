@@ -41,6 +41,13 @@ pub fn within(alloc: Global, step: &str, fail: DocFail) -> DocFail
     }
 }
 
+/// The same fault, of an object that has it in this field.
+pub fn within_field(alloc: Global, field: Field, fail: DocFail) -> DocFail
+    ensures { (fault : Option Fault) → Fails fault fail → Fails (in_part (field_name field) fault) result }
+{
+    within(alloc, field.name(), fail)
+}
+
 /// The same fault, of the array that has the element at this position.
 pub fn within_place(alloc: Global, place: usize, fail: DocFail) -> DocFail
     ensures { (fault : Option Fault) → Fails fault fail → Fails (in_part (decimal place) fault) result }
@@ -55,14 +62,14 @@ pub fn within_place(alloc: Global, place: usize, fail: DocFail) -> DocFail
 pub fn missing(alloc: Global, field: Field) -> DocFail
     ensures { Fails (missing_fault field true) result }
 {
-    within(alloc, field.name(), here(alloc, DocReason::MissingField))
+    within_field(alloc, field, here(alloc, DocReason::MissingField))
 }
 
 /// That this field of an object is wrong.
 pub fn wrong_at(alloc: Global, field: Field) -> DocFail
     ensures { Fails (in_part (field_name field) (Some (fault_here reason.WrongField))) result }
 {
-    within(alloc, field.name(), wrong(alloc))
+    within_field(alloc, field, wrong(alloc))
 }
 
 fn joined(alloc: Global, step: &str, path: &str) -> Result<Text, AllocError>

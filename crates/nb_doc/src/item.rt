@@ -2,15 +2,15 @@
 ghost use Rattle.std.specs.Prelude.{◌≡◌, Some, None, true, false, IfOk, IfErr};
 ghost use Rattle.serde_json.specs.View.{view, items_view};
 ghost use Rattle.nb_doc.specs.declared.form.Field.TheVariants as field;
-ghost use Rattle.nb_doc.specs.declared.around.Around.{Around as AroundOf};
-ghost use Rattle.nb_doc.specs.Faults.{Fails};
-ghost use Rattle.nb_doc.specs.Forms.{needs, is_there as is_there_of, field_fault, object_fault};
+ghost use Rattle.std.specs.Fmt.{decimal};
+ghost use Rattle.nb_doc.specs.Faults.{Fails, in_part};
+ghost use Rattle.nb_doc.specs.Forms.{needs, field_fault, object_fault};
 ghost use Rattle.nb_doc.specs.Items.{each_fault, each_of, item_fault, item_of, cell_rows, import_rows, cell_item, import_item, items_fault, items_in, items_at};
 
 use crate::around::Around;
 use crate::arrays::keep;
 use crate::contents::{alias, cell, name, observed, reference};
-use crate::fail::{missing, within, within_place, wrong};
+use crate::fail::{missing, within_field, within_place, wrong};
 use crate::form::Field;
 use crate::object::{is_there, test_object};
 use crate::reason::DocFail;
@@ -138,7 +138,7 @@ pub fn items_field(alloc: Global, around: &Around, tree: &Tree) -> Result<ItemLi
     match tree.get(Field::Items.name()) {
         Some(found) => match read_items(alloc, around, found) {
             Ok(items) => Ok(items),
-            Err(fail) => Err(within(alloc, Field::Items.name(), fail)),
+            Err(fail) => Err(within_field(alloc, Field::Items, fail)),
         },
         None => Err(missing(alloc, Field::Items)),
     }
@@ -156,6 +156,18 @@ fn read_items(alloc: Global, around: &Around, tree: &Tree) -> Result<ItemList, D
     }
 }
 
+/// The item at a position.
+fn item_at(alloc: Global, around: &Around, place: usize, tree: &Tree) -> Result<Item, DocFail>
+    ensures right { IfOk result (λ i. item_fault around.now (view tree.now) ≡ None) }
+    ensures said { IfOk result (λ i. item_of around.now (view tree.now) ≡ Some i) }
+    ensures bad { IfErr result (Fails (in_part (decimal place) (item_fault around.now (view tree.now)))) }
+{
+    match read_item(alloc, around, tree) {
+        Ok(item) => Ok(item),
+        Err(fail) => Err(within_place(alloc, place, fail)),
+    }
+}
+
 fn each_item(alloc: Global, around: &Around, items: &Vec<Tree>) -> Result<Vec<Item>, DocFail>
     ensures right { IfOk result (λ i. each_fault (item_fault around.now) 0 (items_view items.now.items) ≡ None) }
     ensures said { IfOk result (λ i. each_of (item_of around.now) (items_view items.now.items) ≡ Some i.items) }
@@ -163,10 +175,7 @@ fn each_item(alloc: Global, around: &Around, items: &Vec<Tree>) -> Result<Vec<It
 {
     let mut found = Vec::new(alloc);
     for (k, item) in items.iter().enumerate() {
-        match read_item(alloc, around, item) {
-            Ok(item) => keep(&mut found, item)?,
-            Err(fail) => return Err(within_place(alloc, k, fail)),
-        }
+        keep(&mut found, item_at(alloc, around, k, item)?)?;
     }
     Ok(found)
 }

@@ -2,14 +2,15 @@
 ghost use Rattle.std.specs.Prelude.{◌≡◌, ◌≤◌, [], Some, None, IfOk, IfErr, OnOk, map, option_map};
 ghost use Rattle.serde_json.specs.View.{view, items_view};
 ghost use Rattle.nb_doc.specs.declared.form.Field.TheVariants as field;
-ghost use Rattle.nb_doc.specs.Faults.{Fails};
+ghost use Rattle.std.specs.Fmt.{decimal};
+ghost use Rattle.nb_doc.specs.Faults.{Fails, in_part};
 ghost use Rattle.nb_doc.specs.Forms.{needs, may, field_fault};
 ghost use Rattle.nb_doc.specs.Items.{each_fault, each_of};
 ghost use Rattle.nb_doc.specs.Loading.{word_in as word_in_data, word_fault, words_fault, argv_fault, argv_in, argv_at, key_fault, key_at, loader_fault, loader_of, with_key, loaders_fault_from, loaders_fault, loaders_in, loaders_of};
 
 use crate::arrays::{count, keep};
 use crate::document::{Loader, Loaders};
-use crate::fail::{here, missing, within, within_place, wrong, wrong_at};
+use crate::fail::{here, missing, within_field, within_place, wrong, wrong_at};
 use crate::form::Field;
 use crate::object::test_object;
 use crate::reason::{DocFail, DocReason};
@@ -31,6 +32,18 @@ fn word_in(tree: &Tree) -> Option<&str>
     }
 }
 
+/// The word at a position.
+fn word_at(alloc: Global, place: usize, tree: &Tree) -> Result<Text, DocFail>
+    ensures right { IfOk result (λ w. word_fault (view tree.now) ≡ None) }
+    ensures said { IfOk result (λ w. word_in_data (view tree.now) ≡ Some w) }
+    ensures bad { IfErr result (Fails (in_part (decimal place) (word_fault (view tree.now)))) }
+{
+    match word_in(tree) {
+        Some(word) => Ok(Text::from_str(alloc, word)?),
+        None => Err(within_place(alloc, place, wrong(alloc))),
+    }
+}
+
 fn each_word(alloc: Global, items: &Vec<Tree>) -> Result<Vec<Text>, DocFail>
     ensures right { IfOk result (λ w. each_fault word_fault 0 (items_view items.now.items) ≡ None) }
     ensures said { IfOk result (λ w. each_of word_in_data (items_view items.now.items) ≡ Some w.items) }
@@ -38,10 +51,7 @@ fn each_word(alloc: Global, items: &Vec<Tree>) -> Result<Vec<Text>, DocFail>
 {
     let mut found = Vec::new(alloc);
     for (k, item) in items.iter().enumerate() {
-        match word_in(item) {
-            Some(word) => keep(&mut found, Text::from_str(alloc, word)?)?,
-            None => return Err(within_place(alloc, k, wrong(alloc))),
-        }
+        keep(&mut found, word_at(alloc, k, item)?)?;
     }
     Ok(found)
 }
@@ -79,7 +89,7 @@ fn argv_field(alloc: Global, tree: &Tree) -> Result<Argv, DocFail>
     match tree.get(Field::Argv.name()) {
         Some(found) => match read_argv(alloc, found) {
             Ok(argv) => Ok(argv),
-            Err(fail) => Err(within(alloc, Field::Argv.name(), fail)),
+            Err(fail) => Err(within_field(alloc, Field::Argv, fail)),
         },
         None => Err(missing(alloc, Field::Argv)),
     }
@@ -105,7 +115,7 @@ fn key_field<'t>(
     };
     match keys.insert(key) {
         Ok(true) => Ok(key),
-        Ok(false) => Err(within(alloc, Field::Key.name(), here(alloc, DocReason::TwoLoaders))),
+        Ok(false) => Err(within_field(alloc, Field::Key, here(alloc, DocReason::TwoLoaders))),
         Err(_) => Err(DocFail::Memory),
     }
 }
@@ -130,6 +140,24 @@ fn read_loader<'t>(
     })
 }
 
+/// The loader at a position.
+fn loader_at<'t>(
+    alloc: Global,
+    keys: &mut IndexSet<&'t str>,
+    place: usize,
+    tree: &'t Tree,
+) -> Result<Loader, DocFail>
+    ensures right { IfOk result (λ l. loader_fault (map (λ s. s.now) keys.old.keys) (view tree.now) ≡ None) }
+    ensures said { IfOk result (λ l. loader_of (view tree.now) ≡ Some l) }
+    ensures kept { OnOk result (map (λ s. s.now) keys.new.keys ≡ with_key (map (λ s. s.now) keys.old.keys) (view tree.now)) }
+    ensures bad { IfErr result (Fails (in_part (decimal place) (loader_fault (map (λ s. s.now) keys.old.keys) (view tree.now)))) }
+{
+    match read_loader(alloc, keys, tree) {
+        Ok(loader) => Ok(loader),
+        Err(fail) => Err(within_place(alloc, place, fail)),
+    }
+}
+
 fn each_loader(alloc: Global, items: &Vec<Tree>) -> Result<Loaders, DocFail>
     ensures right { IfOk result (λ l. loaders_fault_from [] 0 (items_view items.now.items) ≡ None) }
     ensures said { IfOk result (λ l. each_of loader_of (items_view items.now.items) ≡ Some l) }
@@ -138,10 +166,7 @@ fn each_loader(alloc: Global, items: &Vec<Tree>) -> Result<Loaders, DocFail>
     let mut keys: IndexSet<&str> = IndexSet::new(alloc);
     let mut found = Items::new(alloc);
     for (k, item) in items.iter().enumerate() {
-        match read_loader(alloc, &mut keys, item) {
-            Ok(loader) => found.push(loader)?,
-            Err(fail) => return Err(within_place(alloc, k, fail)),
-        }
+        found.push(loader_at(alloc, &mut keys, k, item)?)?;
     }
     Ok(found)
 }
@@ -167,7 +192,7 @@ pub fn loaders_field(alloc: Global, tree: &Tree) -> Result<Loaders, DocFail>
     match tree.get(Field::Loaders.name()) {
         Some(found) => match read_loaders(alloc, found) {
             Ok(loaders) => Ok(loaders),
-            Err(fail) => Err(within(alloc, Field::Loaders.name(), fail)),
+            Err(fail) => Err(within_field(alloc, Field::Loaders, fail)),
         },
         None => Ok(Items::new(alloc)),
     }
