@@ -1,3 +1,6 @@
 pub mod SpecifierLemmas
 pub mod FailLemmas
 pub mod CountLemmas
+pub mod CountingLemmas
+pub mod KeyLemmas
+pub mod Once

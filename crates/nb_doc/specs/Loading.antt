@@ -69,7 +69,8 @@ loader k words = record { key = k; argv = words }
 unfoldable pub loader_of : Data → Option Loader
 loader_of d = option_and_then (λ k. option_map (loader k) (argv_at d)) (key_at d)
 
-abbrev pub with_key : List (List ℕ) → Data → List (List ℕ)
+-- the keys with that of this loader
+unfoldable pub with_key : List (List ℕ) → Data → List (List ℕ)
 with_key keys d = keys ++ unwrap_or (key_at d) [] ∷ []
 
 abbrev pub loaders_fault_from : List (List ℕ) → ℕ → Items → Option Fault

@@ -4,7 +4,8 @@ use Rattle.std.specs.Option.{option_map_or}
 use Rattle.nb_syntax.specs.declared.tree.Cell.{Cell}
 use Rattle.nb_syntax.specs.declared.tree.Body.TheVariants.{Expr as ExprBody}
 use Rattle.nb_syntax.specs.declared.tree.Expr.TheVariants.{Null}
-use Rattle.nb_sheet.specs.Derive.{derived}
+use Rattle.nb_sheet.specs.Derive.{Modules, add_modules, derived}
+use Rattle.nb_sheet.specs.Lists.{from_option}
 use Rattle.nb_sheet.specs.Sheet.{Sheet, empty_sheet, with_copies}
 use Rattle.nb_sheet.specs.declared.row.BodyOf.{BodyOf}
 use Rattle.nb_sheet.specs.declared.row.BodyOf.TheVariants.{Cell as CellBody, Import as ImportBody}
@@ -70,6 +71,10 @@ place_for places m s = place_at (number_for places s) (variable_for (if is_full 
 
 unfoldable pub counted : List Place → Module → Sheet → Sheet
 counted places m s = if is_full s then s else with_items (places ++ place_for places m s ∷ []) (number_for places s) (items_of m) (made places m s)
+
+-- one step of a derive's walk: the module at this place of the list adds those that it imports from
+abbrev pub gone_through : Modules → (ℕ → List VarRow) → ℕ → List ℕ → List ℕ
+gone_through modules copied place list = from_option list (λ k. add_modules modules list (copied k)) (slice_get list place)
 
 -- the places of the modules, one after another
 abbrev pub places_from : Sheet → List Place → List Module → List Place

@@ -7,7 +7,7 @@ ghost use Rattle.nb_doc.specs.Faults.{Fails};
 ghost use Rattle.nb_doc.specs.Forms.{may, field_fault};
 ghost use Rattle.nb_doc.specs.Loading.{member_fault, members_fault, member_count, few_members_fault, builtins_fault, builtins_in, builtins_of};
 
-use crate::fail::{within, within_field, wrong};
+use crate::fail::{within_field, wrong, wrong_under};
 use crate::form::Field;
 use crate::reason::DocFail;
 use nb_lexer::is_name;
@@ -25,12 +25,12 @@ fn read_member(alloc: Global, key: &str, tree: &Tree) -> Result<Value, DocFail>
     ensures bad { IfErr result (Fails (member_fault key.now (view tree.now))) }
 {
     if !is_name(key) {
-        return Err(within(alloc, key, wrong(alloc)));
+        return Err(wrong_under(alloc, key));
     }
     match Value::from_tree(alloc, tree) {
         Ok(value) => Ok(value),
         Err(JsonFail::Memory) => Err(DocFail::Memory),
-        Err(_) => Err(within(alloc, key, wrong(alloc))),
+        Err(_) => Err(wrong_under(alloc, key)),
     }
 }
 

@@ -5,7 +5,7 @@ ghost use Rattle.nb_sheet.specs.Derive.{copied_of, copied_var, copy_of as copy_o
 ghost use Rattle.nb_sheet.specs.Sheet.{empty_sheet, with_copies};
 ghost use Rattle.nb_sheet.specs.declared.copies.NewModule.{NewModule};
 ghost use Rattle.nb_sheet.specs.declared.row.VarRow.{VarRow as Row};
-ghost use Rattle.nb_doc.specs.Numbers.{no_cell as no_cell_, item_row as item_row_of, items_of as items_of_, is_full as is_full_of, number_for, variable_for, counted, place_for, places_of as places_of_, made, sheet_in};
+ghost use Rattle.nb_doc.specs.Numbers.{no_cell as no_cell_, item_row as item_row_of, items_of as items_of_, is_full as is_full_of, number_for, variable_for, counted, place_at, place_for, places_of as places_of_, made, sheet_in};
 
 use crate::item::Item;
 use crate::module::Module;
@@ -151,6 +151,7 @@ fn add_copy(
 }
 
 /// Adds the copies of the rows of module `k`.
+#[tactic(auto, using(crate::proofs::CountingLemmas::rows_of_two))]
 fn add_rest(
     alloc: Global,
     rows: &mut Vec<VarRow>,
@@ -170,6 +171,7 @@ fn add_rest(
 }
 
 /// Adds the rows of the copy of module `k`, which has this number.
+#[tactic(auto, using(crate::proofs::CountingLemmas::rows_of_two))]
 fn add_module_copy(
     alloc: Global,
     rows: &mut Vec<VarRow>,
@@ -208,6 +210,7 @@ fn add_marks(marks: &mut Vec<bool>, copied: &[u32]) -> Result<(), AllocError>
 }
 
 /// Adds what a derive makes.
+#[tactic(auto, using(crate::proofs::CountingLemmas::marks_of))]
 fn derive(
     alloc: Global,
     sheet: &mut Counted,
@@ -380,17 +383,24 @@ fn count_module(
     ensures place { OnOk result (places.new.items ≡ places.old.items ++ place_for places.old.items module.now (sheet_in sheet.old) ∷ []) }
 {
     let number = next_number(sheet, places.as_slice())?;
-    let full = is_full(sheet);
-    if !full {
-        make(alloc, sheet, places.as_slice(), module)?;
+    if is_full(sheet) {
+        return add_place(places, number, next_variable(sheet));
     }
-    places.push(Place {
+    make(alloc, sheet, places.as_slice(), module)?;
+    add_place(places, number, next_variable(sheet))?;
+    add_items(
+        alloc,
+        &mut sheet.rows,
+        places.as_slice(),
         number,
-        variable: next_variable(sheet),
-    })?;
-    if !full {
-        add_items(alloc, &mut sheet.rows, places.as_slice(), number, items_of(module))?;
-    }
+        items_of(module),
+    )
+}
+
+fn add_place(places: &mut Vec<Place>, number: u32, variable: u32) -> Result<(), AllocError>
+    ensures { OnOk result (places.new.items ≡ places.old.items ++ place_at number variable ∷ []) }
+{
+    places.push(Place { number, variable })?;
     Ok(())
 }
 

@@ -62,14 +62,35 @@ pub fn within_place(alloc: Global, place: usize, fail: DocFail) -> DocFail
 pub fn missing(alloc: Global, field: Field) -> DocFail
     ensures { Fails (missing_fault field true) result }
 {
-    within_field(alloc, field, here(alloc, DocReason::MissingField))
+    at_field(alloc, field, DocReason::MissingField)
+}
+
+/// A fault of what an object has in this field.
+pub fn at_field(alloc: Global, field: Field, reason: DocReason) -> DocFail
+    ensures { Fails (in_part (field_name field) (Some (fault_here reason))) result }
+{
+    within_field(alloc, field, here(alloc, reason))
 }
 
 /// That this field of an object is wrong.
 pub fn wrong_at(alloc: Global, field: Field) -> DocFail
     ensures { Fails (in_part (field_name field) (Some (fault_here reason.WrongField))) result }
 {
-    within_field(alloc, field, wrong(alloc))
+    at_field(alloc, field, DocReason::WrongField)
+}
+
+/// That what an object has under this key is wrong.
+pub fn wrong_under(alloc: Global, key: &str) -> DocFail
+    ensures { Fails (in_part key.now (Some (fault_here reason.WrongField))) result }
+{
+    within(alloc, key, wrong(alloc))
+}
+
+/// That an array's element at this position is wrong.
+pub fn wrong_place(alloc: Global, place: usize) -> DocFail
+    ensures { Fails (in_part (decimal place) (Some (fault_here reason.WrongField))) result }
+{
+    within_place(alloc, place, wrong(alloc))
 }
 
 fn joined(alloc: Global, step: &str, path: &str) -> Result<Text, AllocError>

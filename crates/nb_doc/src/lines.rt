@@ -71,11 +71,11 @@ fn add_module(
     events: &mut Items<Event>,
     places: &[Place],
     position: usize,
-    module: Module,
+    one: Module,
 ) -> Result<(), AllocError>
-    ensures { OnOk result (events.new ≡ events.old ++ module_lines places.now position module) }
+    ensures { OnOk result (events.new ≡ events.old ++ module_lines places.now position one) }
 {
-    match module {
+    match one {
         Module::Plain(items) => {
             if position != 0 {
                 events.push(Event::Edit(Edit::AddModule))?;

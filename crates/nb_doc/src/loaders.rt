@@ -1,16 +1,16 @@
 //! The loaders of a document.
-ghost use Rattle.std.specs.Prelude.{◌≡◌, ◌≤◌, [], Some, None, IfOk, IfErr, OnOk, map, option_map};
+ghost use Rattle.std.specs.Prelude.{◌≡◌, [], ◌∷◌, ◌++◌, Some, None, true, not, IfOk, IfErr, OnOk, map, option_map};
 ghost use Rattle.serde_json.specs.View.{view, items_view};
 ghost use Rattle.nb_doc.specs.declared.form.Field.TheVariants as field;
 ghost use Rattle.std.specs.Fmt.{decimal};
 ghost use Rattle.nb_doc.specs.Faults.{Fails, in_part};
 ghost use Rattle.nb_doc.specs.Forms.{needs, may, field_fault};
 ghost use Rattle.nb_doc.specs.Items.{each_fault, each_of};
-ghost use Rattle.nb_doc.specs.Loading.{word_in as word_in_data, word_fault, words_fault, argv_fault, argv_in, argv_at, key_fault, key_at, loader_fault, loader_of, with_key, loaders_fault_from, loaders_fault, loaders_in, loaders_of};
+ghost use Rattle.nb_doc.specs.Loading.{word_in as word_in_data, word_fault, words_fault, argv_fault, argv_in, argv_at, has_key, key_fault, key_at, loader_fault, loader_of, with_key, loaders_fault_from, loaders_fault, loaders_in, loaders_of};
 
 use crate::arrays::{count, keep};
 use crate::document::{Loader, Loaders};
-use crate::fail::{here, missing, within_field, within_place, wrong, wrong_at};
+use crate::fail::{at_field, missing, within_field, within_place, wrong, wrong_at, wrong_place};
 use crate::form::Field;
 use crate::object::test_object;
 use crate::reason::{DocFail, DocReason};
@@ -40,7 +40,7 @@ fn word_at(alloc: Global, place: usize, tree: &Tree) -> Result<Text, DocFail>
 {
     match word_in(tree) {
         Some(word) => Ok(Text::from_str(alloc, word)?),
-        None => Err(within_place(alloc, place, wrong(alloc))),
+        None => Err(wrong_place(alloc, place)),
     }
 }
 
@@ -96,7 +96,7 @@ fn argv_field(alloc: Global, tree: &Tree) -> Result<Argv, DocFail>
 }
 
 /// The key of a loader, which no earlier one has; and it is kept with theirs.
-#[tactic(auto, unfolding(crate::specs::Forms::field_fault))]
+#[tactic(auto, unfolding(crate::specs::Forms::field_fault, crate::specs::Loading::with_key))]
 fn key_field<'t>(
     alloc: Global,
     keys: &mut IndexSet<&'t str>,
@@ -113,11 +113,20 @@ fn key_field<'t>(
     let Some(key) = found.as_str() else {
         return Err(wrong_at(alloc, Field::Key));
     };
-    match keys.insert(key) {
-        Ok(true) => Ok(key),
-        Ok(false) => Err(within_field(alloc, Field::Key, here(alloc, DocReason::TwoLoaders))),
-        Err(_) => Err(DocFail::Memory),
+    if add_key(keys, key)? {
+        Ok(key)
+    } else {
+        Err(at_field(alloc, Field::Key, DocReason::TwoLoaders))
     }
+}
+
+/// Keeps a key with the others; whether it is a new one.
+#[tactic(auto, using(crate::proofs::KeyLemmas::among))]
+fn add_key<'t>(keys: &mut IndexSet<&'t str>, key: &'t str) -> Result<bool, AllocError>
+    ensures new { IfOk result (λ b. b ≡ not (has_key (map (λ s. s.now) keys.old.keys) key.now)) }
+    ensures kept { IfOk result (λ b. b ≡ true → map (λ s. s.now) keys.new.keys ≡ map (λ s. s.now) keys.old.keys ++ key.now ∷ []) }
+{
+    Ok(keys.insert(key)?)
 }
 
 #[tactic(auto, unfolding(crate::specs::Forms::object_fault, crate::specs::Loading::loader_fault, crate::specs::Loading::loader_of))]

@@ -9,7 +9,7 @@ ghost use Rattle.nb_doc.specs.Modules.{listed, own_name, name_row, name_part, kn
 
 use crate::around::{Around, enter, place_of};
 use crate::contents::{name_in, reference, specifiers};
-use crate::fail::{here, missing, within_field, wrong_at};
+use crate::fail::{at_field, missing, wrong_at};
 use crate::form::Field;
 use crate::item::{ItemList, items_field};
 use crate::object::{is_there, test_object};
@@ -80,7 +80,7 @@ fn new_name<'t>(alloc: Global, around: &Around, tree: &'t Tree) -> Result<&'t st
     match tree.get(Field::Name.name()) {
         Some(found) => match name_in(found) {
             Some(name) => match place_of(around.names.as_slice(), name) {
-                Some(_) => Err(within_field(alloc, Field::Name, here(alloc, DocReason::TwoModules))),
+                Some(_) => Err(at_field(alloc, Field::Name, DocReason::TwoModules)),
                 None => Ok(name),
             },
             None => Err(wrong_at(alloc, Field::Name)),

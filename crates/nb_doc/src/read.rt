@@ -1,5 +1,5 @@
 //! Reading a document.
-ghost use Rattle.std.specs.Prelude.{◌≡◌, ◌⊎◌, [], Some, None, IfOk, IfErr};
+ghost use Rattle.std.specs.Prelude.{◌≡◌, ◌⊎◌, ℕ, List, [], Some, None, Err, IfOk, IfErr};
 ghost use Rattle.serde_json.specs.Errors.{IsMemory};
 ghost use Rattle.serde_json.specs.View.{view};
 ghost use Rattle.nb_lines.specs.Reasons.{line_data};
@@ -7,9 +7,9 @@ ghost use Rattle.nb_doc.specs.declared.form.Field.TheVariants as field;
 ghost use Rattle.nb_doc.specs.declared.reason.DocReason.{DocReason as Reason};
 ghost use Rattle.nb_doc.specs.declared.reason.DocReason.TheVariants as reason;
 ghost use Rattle.nb_doc.specs.declared.reason.DocFail.TheVariants.{Bad};
-ghost use Rattle.nb_doc.specs.Faults.{Fails, IsTold, here as fault_here};
+ghost use Rattle.nb_doc.specs.Faults.{Fails, IsTold};
 ghost use Rattle.nb_doc.specs.Forms.{needs, field_fault};
-ghost use Rattle.nb_doc.specs.Documents.{version_in as version_in_data, version_fault, version_at, data_fault, data_document, fault_case, first_fault, document_of, ReadsDocument, UnlessMemory};
+ghost use Rattle.nb_doc.specs.Documents.{version_in as version_in_data, version_fault, version_at, data_fault, data_document, first_fault, document_of, ReadsDocument, UnlessMemory};
 
 use crate::builtins::builtins_field;
 use crate::document::Document;
@@ -31,6 +31,17 @@ use std::alloc::Global;
 /// counted copy by copy.
 pub fn read_document(alloc: Global, bytes: &[u8]) -> Result<Document, DocFail>
     ensures document { ReadsDocument bytes.now result }
+    // No other fault is answered, and none where there is none.
+    ensures only { (path : List ℕ) (reason : Reason) → IsTold (first_fault bytes.now) path reason → UnlessMemory result (result ≡ Err (Bad path reason)) }
+{
+    document_of_bytes(alloc, bytes)
+}
+
+#[tactic(auto, unfolding(crate::specs::Documents::first_fault, crate::specs::Documents::document_of))]
+fn document_of_bytes(alloc: Global, bytes: &[u8]) -> Result<Document, DocFail>
+    ensures good { IfOk result (λ d. first_fault bytes.now ≡ None) }
+    ensures said { IfOk result (λ d. document_of bytes.now ≡ Some d) }
+    ensures bad { IfErr result (Fails (first_fault bytes.now)) }
 {
     let tree = tree_of(alloc, bytes)?;
     document_of_tree(alloc, &tree)

@@ -1,6 +1,7 @@
 //! The modules that a derive copies.
-ghost use Rattle.std.specs.Prelude.{◌≡◌, ◌∷◌, [], IfOk, OnOk};
+ghost use Rattle.std.specs.Prelude.{◌≡◌, IfOk, OnOk, slice_get};
 ghost use Rattle.nb_sheet.specs.Derive.{by_derive as by_derive_of, has_number, add_module as module_added, add_modules, copied_modules as copied_modules_of, copied_of};
+ghost use Rattle.nb_doc.specs.Numbers.{gone_through};
 
 use nb_sheet::{BodyOf, Specifiers, VarRow, is_copied};
 use std::alloc::{AllocError, Global};
@@ -62,6 +63,30 @@ fn go_through(
     Ok(())
 }
 
+/// Adds what the variables import of the module at a place of the list, if there is one.
+fn go_from(
+    marks: &[bool],
+    rows: &[VarRow],
+    within: u32,
+    specifiers: &Specifiers,
+    place: usize,
+    list: &mut Vec<u32>,
+) -> Result<(), AllocError>
+    ensures { OnOk result (list.new.items ≡ gone_through marks.now (copied_of within specifiers.now rows.now) place list.old.items) }
+{
+    match number_at(list.as_slice(), place) {
+        Some(k) => go_through(marks, rows, within, specifiers, k, list),
+        None => Ok(()),
+    }
+}
+
+/// The number at a place, if there is one.
+fn number_at(list: &[u32], place: usize) -> Option<u32>
+    ensures { result ≡ slice_get list.now place }
+{
+    list.get(place).copied()
+}
+
 /// The modules that a derive copies, in their order.
 pub fn copied_modules(
     alloc: Global,
@@ -75,9 +100,7 @@ pub fn copied_modules(
     let mut list = Vec::new(alloc);
     list.push(within)?;
     for place in 0..marks.len() {
-        if let Some(k) = list.as_slice().get(place).copied() {
-            go_through(marks, rows, within, specifiers, k, &mut list)?;
-        }
+        go_from(marks, rows, within, specifiers, place, &mut list)?;
     }
     Ok(list)
 }

@@ -1,9 +1,0 @@
--- A fault of the object at the field's key.
-use Rattle.std.proofs.Common.{Some}
-use Rattle.nb_doc.specs.declared.reason.DocReason.TheVariants.{MissingField}
-use Rattle.nb_doc.specs.Faults.{here}
-use Rattle.nb_doc.proofs.FailLemmas.{here_fails}
-use Rattle.nb_doc.proofs.fail.missing.Goals as goal
-
-pub returns : goal.returns
-returns c = c.within_field.ensures (Some (here MissingField)) (here_fails MissingField c.here.result c.here.ensures)
