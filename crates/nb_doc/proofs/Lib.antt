@@ -4,3 +4,4 @@ pub mod CountLemmas
 pub mod CountingLemmas
 pub mod KeyLemmas
 pub mod Once
+pub mod LoaderLemmas

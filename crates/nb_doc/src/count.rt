@@ -73,12 +73,7 @@ fn turned(alloc: Global, plan: &Plan<'_>, body: &BodyOf) -> Result<BodyOf, Alloc
 }
 
 /// The row of a specifier's variable of the source, under its alias.
-fn import_row(
-    alloc: Global,
-    s: &Specifier,
-    source: u32,
-    number: u32,
-) -> Result<VarRow, AllocError>
+fn import_row(alloc: Global, s: &Specifier, source: u32, number: u32) -> Result<VarRow, AllocError>
     ensures { IfOk result (λ row. row ≡ new_row number 0 (import_of source s.now)) }
 {
     let name = s.name.copy(alloc)?;
@@ -247,7 +242,10 @@ fn item_row(alloc: Global, places: &[Place], m: u32, item: &Item) -> Result<VarR
     let (name, body) = match item {
         Item::Cell { cell, .. } => (copy_name(alloc, &cell.name)?, BodyOf::Cell(no_cell())),
         Item::Import {
-            name, alias, from, ..
+            name,
+            alias,
+            from,
+            ..
         } => {
             let body = BodyOf::Import {
                 name: name.copy(alloc)?,

@@ -24,7 +24,10 @@ use std::marker::Model;
 #[derive(Drop)]
 pub enum Item {
     /// A variable that the cell defines.
-    Cell { cell: Cell, observed: bool },
+    Cell {
+        cell: Cell,
+        observed: bool,
+    },
     /// A variable that stands, as its alias, for the variable of this name in the module at this position.
     Import {
         name: Text,

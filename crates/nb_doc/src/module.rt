@@ -55,11 +55,7 @@ fn plain_fields(named: bool) -> &'static [Field]
 
 /// The module's name, if modules have names. No earlier one has it.
 #[tactic(auto, unfolding(crate::specs::Forms::field_fault))]
-fn own_name<'t>(
-    alloc: Global,
-    around: &Around,
-    tree: &'t Tree,
-) -> Result<Option<&'t str>, DocFail>
+fn own_name<'t>(alloc: Global, around: &Around, tree: &'t Tree) -> Result<Option<&'t str>, DocFail>
     ensures right { IfOk result (λ n. name_part around.now (view tree.now) ≡ None) }
     ensures said { IfOk result (λ n. own_name around.now (view tree.now) ≡ listed (option_map (λ s. s.now) n)) }
     ensures bad { IfErr result (Fails (name_part around.now (view tree.now))) }
@@ -91,11 +87,7 @@ fn new_name<'t>(alloc: Global, around: &Around, tree: &'t Tree) -> Result<&'t st
 
 /// A derived module.
 #[tactic(auto, unfolding(crate::specs::Modules::rows_fault, crate::specs::Modules::next))]
-fn derived_module(
-    alloc: Global,
-    around: &mut Around,
-    tree: &Tree,
-) -> Result<Module, DocFail>
+fn derived_module(alloc: Global, around: &mut Around, tree: &Tree) -> Result<Module, DocFail>
     requires { around.old.modules < 2 ^ 63 }
     ensures right { IfOk result (λ m. rows_fault around.old (derived_rows around.old) (view tree.now) ≡ None) }
     ensures said { IfOk result (λ m. derived_module around.old (view tree.now) ≡ Some m) }
@@ -117,11 +109,7 @@ fn derived_module(
 
 /// A module of its own items.
 #[tactic(auto, unfolding(crate::specs::Modules::rows_fault, crate::specs::Modules::next))]
-fn plain_module(
-    alloc: Global,
-    around: &mut Around,
-    tree: &Tree,
-) -> Result<Module, DocFail>
+fn plain_module(alloc: Global, around: &mut Around, tree: &Tree) -> Result<Module, DocFail>
     requires { around.old.modules < 2 ^ 63 }
     ensures right { IfOk result (λ m. rows_fault around.old (plain_rows around.old (view tree.now)) (view tree.now) ≡ None) }
     ensures said { IfOk result (λ m. plain_module around.old (view tree.now) ≡ Some m) }
@@ -137,11 +125,7 @@ fn plain_module(
 
 /// One module, which may refer to those before it, and which those after it may refer to.
 #[tactic(auto, unfolding(crate::specs::Modules::module_fault, crate::specs::Modules::module_of))]
-pub fn read_module(
-    alloc: Global,
-    around: &mut Around,
-    tree: &Tree,
-) -> Result<Module, DocFail>
+pub fn read_module(alloc: Global, around: &mut Around, tree: &Tree) -> Result<Module, DocFail>
     requires { around.old.modules < 2 ^ 63 }
     ensures right { IfOk result (λ m. module_fault around.old (view tree.now) ≡ None) }
     ensures said { IfOk result (λ m. module_of around.old (view tree.now) ≡ Some m) }

@@ -29,11 +29,7 @@ fn has(list: &[u32], k: u32) -> bool
 }
 
 /// Adds the module that an import is from, if a derive made it and it isn't in the list.
-fn add_module(
-    marks: &[bool],
-    list: &mut Vec<u32>,
-    body: &Option<BodyOf>,
-) -> Result<(), AllocError>
+fn add_module(marks: &[bool], list: &mut Vec<u32>, body: &Option<BodyOf>) -> Result<(), AllocError>
     ensures { OnOk result (list.new.items ≡ module_added marks.now list.old.items body.now) }
 {
     if let Some(BodyOf::Import { from, .. }) = body {

@@ -87,8 +87,14 @@ fn reads_documents(rt: HostRuntime) -> Result<(), Fail> {
         let Ok(document) = read_document(alloc, row.document.as_bytes()) else {
             return Err("a document is refused".into());
         };
-        assert_eq!(rt; loaders_of(alloc, &document)?.as_slice(), row.loaders.as_bytes());
-        assert_eq!(rt; lines_of(alloc, &document)?.as_slice(), row.lines.as_bytes());
+        assert_eq!(rt;
+            loaders_of(alloc, &document)?.as_slice(),
+            row.loaders.as_bytes()
+        );
+        assert_eq!(rt;
+            lines_of(alloc, &document)?.as_slice(),
+            row.lines.as_bytes()
+        );
         let text = Value::Rec(document.builtins).to_json(alloc)?;
         assert_eq!(rt; text.as_str(), row.builtins);
     }
