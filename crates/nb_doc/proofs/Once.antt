@@ -1,5 +1,5 @@
 -- A document has one first fault, told by one reason.
-use Rattle.std.proofs.Common.{◌≡◌, ℕ, List, Option, None, Result, Ok, Err, sym, ap, ◌∙◌, subst}
+use Rattle.std.proofs.Common.{◌≡◌, ℕ, List, Option, Result, Ok, Err, sym, ap, ◌∙◌, subst}
 use Rattle.std.proofs.lemmas.Option.{none-some, same_Some}
 use Rattle.nb_parser.proofs.Places.{one_refusal}
 use Rattle.nb_doc.specs.declared.document.Document.{Document}

@@ -7,7 +7,6 @@ use Rattle.nb_lines.specs.Reasons.{line_data}
 use Rattle.nb_doc.specs.declared.document.Document.{Document}
 use Rattle.nb_doc.specs.declared.module.Module.{Module}
 use Rattle.nb_doc.specs.declared.form.Field.TheVariants as field
-use Rattle.nb_doc.specs.declared.reason.DocReason.{DocReason}
 use Rattle.nb_doc.specs.declared.reason.DocReason.TheVariants.{NotJson}
 use Rattle.nb_doc.specs.declared.reason.DocFail.{DocFail}
 use Rattle.nb_doc.specs.declared.reason.DocFail.TheVariants.{Bad, Memory}

@@ -1,5 +1,5 @@
 -- The loaders of a document, and its builtins.
-use Rattle.std.specs.Prelude.{ℕ, suc, ◌+◌, ◌&&◌, Bool, not, List, [], ◌∷◌, ◌++◌, length, Option, Some, None, is_some, option_map, option_and_then, unwrap_or, nat_le, if◌then◌else◌}
+use Rattle.std.specs.Prelude.{ℕ, suc, ◌+◌, ◌&&◌, Bool, List, [], ◌∷◌, ◌++◌, length, Option, Some, None, is_some, option_map, option_and_then, unwrap_or, nat_le, if◌then◌else◌}
 use Rattle.std.specs.Option.{option_or}
 use Rattle.std.specs.List.{list_any}
 use Rattle.std.specs.Str.{bytes_eq}
@@ -8,7 +8,7 @@ use Rattle.serde_json.specs.Data.{Data, Items, no_items, item, Members, no_membe
 use Rattle.serde_json.specs.Find.{get, as_array, as_object, as_str}
 use Rattle.nb_value.specs.declared.pairs.Field.{Field as Pair}
 use Rattle.nb_value.specs.declared.value.Value.{Value}
-use Rattle.nb_value.specs.Json.{push_front, fields_of}
+use Rattle.nb_value.specs.Json.{fields_of}
 use Rattle.nb_lexer.specs.Spelling.{is_name}
 use Rattle.nb_lines.specs.Fields.{value_in}
 use Rattle.nb_doc.specs.declared.document.Loader.{Loader}

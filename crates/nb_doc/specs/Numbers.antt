@@ -1,5 +1,5 @@
 -- The numbers that modules and variables have in a document's lines: those that they get if no line is refused.
-use Rattle.std.specs.Prelude.{ℕ, ◌+◌, ◌==◌, ◌&&◌, Bool, true, false, List, [], ◌∷◌, ◌++◌, map, length, min, nat_lt, slice_get, Option, Some, None, if◌then◌else◌}
+use Rattle.std.specs.Prelude.{ℕ, ◌+◌, ◌==◌, ◌&&◌, Bool, false, List, [], ◌∷◌, ◌++◌, map, length, min, nat_lt, slice_get, Option, Some, None, if◌then◌else◌}
 use Rattle.std.specs.Option.{option_map_or}
 use Rattle.nb_syntax.specs.declared.tree.Cell.{Cell}
 use Rattle.nb_syntax.specs.declared.tree.Body.TheVariants.{Expr as ExprBody}
