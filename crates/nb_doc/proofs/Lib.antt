@@ -1,0 +1,7 @@
+pub mod SpecifierLemmas
+pub mod FailLemmas
+pub mod CountLemmas
+pub mod CountingLemmas
+pub mod KeyLemmas
+pub mod Once
+pub mod LoaderLemmas

@@ -1,0 +1,8 @@
+-- A fault of what stands at the step.
+use Rattle.std.proofs.Common.{Some}
+use Rattle.nb_doc.specs.declared.reason.DocReason.TheVariants.{WrongField}
+use Rattle.nb_doc.specs.Faults.{here}
+use Rattle.nb_doc.proofs.fail.wrong_place.Goals as goal
+
+pub returns : goal.returns
+returns c = c.within_place.ensures (Some (here WrongField)) c.wrong.ensures

@@ -1,0 +1,9 @@
+pub mod Faults
+pub mod Forms
+pub mod Contents
+pub mod Items
+pub mod Modules
+pub mod Loading
+pub mod Numbers
+pub mod Says
+pub mod Documents
