@@ -11,7 +11,7 @@ use Rattle.nb_runs.specs.Starts.{start_in}
 use Rattle.nb_closing.specs.declared.site.Site.{Site}
 use Rattle.nb_closing.specs.declared.site.Moment.{Moment}
 use Rattle.nb_closing.specs.Sites.{site_of, site_in, kept_of, IsScene}
-use Rattle.nb_core.proofs.Scenes.{site_map}
+use Rattle.nb_closing.proofs.StartSites.{site_map}
 
 pub scene_disposed : (h : History) (editor : ℕ) (sheet : Sheet) (starts : List (Option Start)) (moment : Moment) → sheet ≡ (standing h).sheet → starts ≡ (standing h).starts
     → moment.sites.items ≡ map site_of starts → moment.disposed ≡ true → moment.place ≡ length h.log + 2

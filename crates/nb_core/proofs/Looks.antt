@@ -1,9 +1,9 @@
 -- What the looks of the core tell, by what the machine and the closer keep.
-use Rattle.std.proofs.Common.{inl, inr, ℕ, zero, suc, ◌≡◌, ◌+◌, ◌<◌, ◌≤◌, refl, sym, ◌∙◌, ap, subst, Bool, true, false, not, ◌&&◌, List, [], map, length, arith, option_map, slice_get, Option}
+use Rattle.std.proofs.Common.{inl, inr, ℕ, zero, suc, ◌≡◌, ◌+◌, ◌<◌, ◌≤◌, sym, ◌∙◌, ap, subst, Bool, true, false, not, ◌&&◌, List, [], length, arith, option_map, slice_get, Option}
 use Rattle.std.specs.List.{range_with_len}
 use Rattle.std.proofs.lemmas.Bool.{cases_lt, false_from_ne_true}
 use Rattle.std.proofs.lemmas.List.FromFn.{length-range_with_len, get_or-range_with_len}
-use Rattle.std.proofs.lemmas.Option.{slice_get-map, slice_get-get_or, slice_get_past}
+use Rattle.std.proofs.lemmas.Option.{slice_get-get_or, slice_get_past}
 use Rattle.nb_value.specs.declared.value.Value.{Value}
 use Rattle.nb_value.specs.declared.pairs.Field.{Field}
 use Rattle.nb_sheet.specs.Sheet.{Sheet}
@@ -17,6 +17,7 @@ use Rattle.nb_history.proofs.Gains.{none_closed}
 use Rattle.nb_history.proofs.RestHolds.{shows_at_rest}
 use Rattle.nb_runs.specs.Starts.{start_in}
 use Rattle.nb_closing.specs.Ties.{Ties, ties_of, all_ties}
+use Rattle.nb_closing.proofs.StartSites.{nth_map}
 use Rattle.nb_work.specs.Over.{IsOver}
 use Rattle.nb_core.specs.Core.{ShownBy, RestsOnScratch}
 use Rattle.nb_core.specs.declared.placed.Shown.{Shown}
@@ -40,10 +41,6 @@ pub tied : (h : History) (s : Sheet) (ties own : List Ties) → s ≡ (standing 
 tied h s ties own sheet is kept = is ∙ kept ∙ ap all_ties (sym sheet)
 
 -- ---- who is used, by the ties
-
-nth_map : {A B : Type 0} (f : A → B) (xs : List A) (v : ℕ) → nth (map f xs) v ≡ option_map f (nth xs v)
-nth_map f xs zero = refl
-nth_map f xs (suc i) = slice_get-map f xs i
 
 abbrev marked_used : Option Ties → Bool
 marked_used o = from_option false (λ (t : Ties). t.is_used) o

@@ -1,36 +1,25 @@
 -- A legal log, replayed entry by entry.
-use Rattle.std.proofs.Common.{ℕ, suc, ◌≡◌, ◌+◌, ◌<◌, ◌≤◌, ◌^◌, arith, refl, sym, ◌∙◌, ap, subst, Bool, true, false, cond, List, [], ◌∷◌, ◌++◌, length, drop, get_or, append-nil, Option, Some, None, option_map}
-use Rattle.std.proofs.lemmas.Bool.{false≢true, and_parts}
-use Rattle.std.proofs.lemmas.Option.{none-some, same_Some}
+use Rattle.std.proofs.Common.{ℕ, suc, ◌≡◌, ◌+◌, ◌<◌, ◌^◌, arith, refl, sym, ◌∙◌, ap, subst, Bool, true, false, List, [], ◌∷◌, length, drop, get_or, append-nil, Option, Some, None}
+use Rattle.std.proofs.lemmas.Bool.{false≢true}
+use Rattle.std.proofs.lemmas.Option.{none-some}
 use Rattle.std.proofs.Math.Seq.{drop-cons}
-use Rattle.std.specs.List.{list_any}
 use Rattle.nb_value.specs.declared.value.Value.{Value}
 use Rattle.nb_value.specs.declared.pairs.Field.{Field}
-use Rattle.nb_value.specs.declared.outcome.Answer.{Answer}
-use Rattle.nb_sheet.specs.Sheet.{refusal}
-use Rattle.nb_sheet.specs.Lists.{Name, numbers, nth, from_option, or_else}
-use Rattle.nb_sheet.specs.declared.edit.Edit.{Edit as SheetEdit}
-use Rattle.nb_sheet.specs.declared.refused.Refused.{Refused as Against}
-use Rattle.nb_log.specs.Refused.{refusal_of}
+use Rattle.nb_sheet.specs.Lists.{or_else}
 use Rattle.nb_log.specs.declared.event.Event.{Event}
-use Rattle.nb_log.specs.declared.event.Event.TheVariants.{Edit as EditEvent, Frame as FrameEvent, Settle, Rest as RestEvent, Dispose as DisposeEvent}
-use Rattle.nb_log.specs.declared.event.Target.TheVariants.{Ticket as ByTicket, Key as ByKey}
 use Rattle.nb_log.specs.declared.entry.Refusal.{Refusal}
 use Rattle.nb_log.specs.declared.entry.Entry.{Entry}
 use Rattle.nb_log.specs.declared.entry.Entry.TheVariants.{Edit, Frame, Settled, Late, Loaded, Refused, Rest, Dispose, Pending, Fulfilled, Rejected, Asked, Ended, Left}
-use Rattle.nb_graph.specs.Needs.{has}
-use Rattle.nb_history.specs.Needs.{circular, needed}
-use Rattle.nb_history.specs.Reading.{Reading, owed}
-use Rattle.nb_history.specs.Rules.{due, may_start}
-use Rattle.nb_history.specs.Log.{nothing_yet, reading, after, admit, admitted, first_refusal, event_refusal, is_live, IsOfEvent, Fits, LegalFrom, IsLegal}
+use Rattle.nb_history.specs.Reading.{Reading}
+use Rattle.nb_history.specs.Log.{reading, after, admit, first_refusal, event_refusal, IsOfEvent, Fits, LegalFrom, IsLegal}
 use Rattle.nb_history.specs.History.{History, standing, plus, plus_all}
-use Rattle.nb_history.proofs.Admits.{admit_refused, admit_taken, first_of_all}
-use Rattle.nb_history.proofs.Closing.{due_has, range_has}
+use Rattle.nb_history.proofs.Admits.{admit_refused, first_of_all}
 use Rattle.nb_history.proofs.Plus.{standing_plus, plus_more}
 use Rattle.nb_closing.specs.Ties.{Ties, all_ties}
 use Rattle.nb_core.specs.Core.{gate}
 use Rattle.nb_core.specs.declared.replayed.Reading.{Reading as Parts}
-use Rattle.nb_core.specs.Parts.{AreParts, is_edit}
+use Rattle.nb_core.specs.Edits.{is_edit}
+use Rattle.nb_core.specs.Parts.{AreParts}
 use Rattle.nb_core.proofs.Admitted.{few_entries}
 
 -- ---- an entry of an event that is no refusal
@@ -46,55 +35,15 @@ not_refused r editor event e is taken = go (first_refusal r event) refl
     go None h = h
     go (Some reason) h = absurd (false≢true (sym taken ∙ ap is_refused (is ∙ admit_refused r editor event reason h)))
 
-or_none : (a b : Option Refusal) → or_else a b ≡ None → (a ≡ None) × (b ≡ None)
-or_none None b h = (refl, h)
-or_none (Some x) b h = absurd (none-some x (sym h))
-
--- neither for what every event is refused for, nor for a reason of its own
-own_reasons : (r : Reading) (editor : ℕ) (event : Event) (e : Entry) → e ≡ admit r editor event → is_refused e ≡ false → (gate r ≡ None) × (event_refusal r event ≡ None)
-own_reasons r editor event e is taken = or_none (gate r) (event_refusal r event) (sym (first_of_all r event) ∙ not_refused r editor event e is taken)
+open_gate : (a b : Option Refusal) → or_else a b ≡ None → a ≡ None
+open_gate None b h = refl
+open_gate (Some x) b h = absurd (none-some x (sym h))
 
 -- so a log that a frame fits is short
 pub frame_few : (h : History) (editor : ℕ) → Fits (standing h) (Frame editor) → length h.log + 1 < 2 ^ 32
 frame_few h editor fits =
     let of : IsOfEvent (standing h) (Frame editor) = fits.1 in
-    few_entries h (own_reasons (standing h) of.0 of.1 (Frame editor) of.3 refl).0
-
--- ---- an edit that fits isn't refused
-
-map_none : (o : Option Against) → option_map refusal_of o ≡ None → o ≡ None
-map_none None h = refl
-map_none (Some x) h = absurd (none-some (refusal_of x) (sym h))
-
-abbrev edit_in : Entry → Option SheetEdit
-edit_in (Edit editor edit) = Some edit
-edit_in e = None
-
-edit_taken : (r : Reading) (by editor : ℕ) (event : Event) (edit : SheetEdit) → Edit editor edit ≡ admitted r by event → event_refusal r event ≡ None → refusal r.sheet edit ≡ None
-edit_taken r by editor (EditEvent other) edit h none = ap (refusal r.sheet) (same_Some edit other (ap edit_in h)) ∙ map_none (refusal r.sheet other) none
-edit_taken r by editor FrameEvent edit h none = absurd (none-some edit (sym (ap edit_in h)))
-edit_taken r by editor (Settle (ByTicket t) a) edit h none = absurd (go (is_live r t) (ap edit_in h))
-  where
-    go : (b : Bool) → Some edit ≡ edit_in (cond b (Settled by t a) (Late by t)) → ⊥
-    go true h = none-some edit (sym h)
-    go false h = none-some edit (sym h)
-edit_taken r by editor (Settle (ByKey key) a) edit h none = absurd (none-some edit (sym (ap edit_in h)))
-edit_taken r by editor RestEvent edit h none = absurd (none-some edit (sym (ap edit_in h)))
-edit_taken r by editor DisposeEvent edit h none = absurd (none-some edit (sym (ap edit_in h)))
-
-pub edit_admitted : (r : Reading) (editor : ℕ) (edit : SheetEdit) → Fits r (Edit editor edit) → refusal r.sheet edit ≡ None
-edit_admitted r editor edit fits =
-    let of : IsOfEvent r (Edit editor edit) = fits.1 in
-    edit_taken r of.0 editor of.1 edit
-    (of.3 ∙ admit_taken r of.0 of.1 (not_refused r of.0 of.1 (Edit editor edit) of.3 refl)) (own_reasons r of.0 of.1 (Edit editor edit) of.3 refl).1
-
--- ---- what starts is a variable of the sheet
-
-pub starts_there : (r : Reading) (v : ℕ) → may_start r v ≡ true → (1 ≤ v) × (v ≤ length r.sheet.rows)
-starts_there r v may =
-    let is_due : due r v ≡ true = (and_parts (due r v) _ may).0 in
-    let within : (1 ≤ v) × (v < 1 + length r.sheet.rows) = range_has 1 (length r.sheet.rows) v (due_has r v is_due) in
-    (within.0, omega (arith, within.1))
+    few_entries h (open_gate (gate (standing h)) (event_refusal (standing h) of.1) (sym (first_of_all (standing h) of.1) ∙ not_refused (standing h) of.0 of.1 (Frame editor) of.3 refl))
 
 -- ---- the sheet, and so its ties, stay but at an edit
 

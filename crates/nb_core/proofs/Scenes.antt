@@ -1,8 +1,7 @@
 -- What the next entry of a ready variable leaves, as one sees it who works out what closes.
-use Rattle.std.proofs.Common.{inl, inr, ℕ, zero, suc, ◌≡◌, ◌≢◌, ◌+◌, refl, sym, ◌∙◌, ap, subst, arith, Bool, true, false, cond, ◌&&◌, List, map, length, option_map, Option, Some, None}
+use Rattle.std.proofs.Common.{inl, inr, ℕ, ◌≡◌, ◌≢◌, ◌+◌, refl, sym, ◌∙◌, ap, subst, arith, Bool, true, false, cond, ◌&&◌, List, map, length, option_map, Option, Some}
 use Rattle.std.specs.Prelude.{nat_le}
 use Rattle.std.proofs.lemmas.Bool.{cases_eq}
-use Rattle.std.proofs.lemmas.Option.{slice_get-map}
 use Rattle.nb_log.specs.declared.entry.Entry.{Entry}
 use Rattle.nb_log.specs.declared.entry.Entry.TheVariants.{Fulfilled, Rejected, Asked, Ended}
 use Rattle.nb_sheet.specs.Lists.{nth, put, from_option, option_then}
@@ -20,23 +19,13 @@ use Rattle.nb_runs.specs.Starts.{start_in}
 use Rattle.nb_closing.specs.declared.site.Site.{Site}
 use Rattle.nb_closing.specs.declared.site.Moment.{Moment}
 use Rattle.nb_closing.specs.Sites.{idle_site, site_of, site_in, kept_of, IsScene}
+use Rattle.nb_closing.proofs.StartSites.{nth_map, site_map}
 use Rattle.nb_core.specs.Sites.{is_outcome, stopped_site, stopped_at}
 
 -- ---- sites of starts
 
-nth_map : {A B : Type 0} (f : A → B) (xs : List A) (v : ℕ) → nth (map f xs) v ≡ option_map f (nth xs v)
-nth_map f xs zero = refl
-nth_map f xs (suc i) = slice_get-map f xs i
-
 site_there : (xs : List (Option Start)) (v : ℕ) (s : Start) → nth xs v ≡ Some (Some s) → nth (map site_of xs) v ≡ Some (site_of (Some s))
 site_there xs v s h = nth_map site_of xs v ∙ ap (option_map site_of) h
-
-pub site_map : (xs : List (Option Start)) (v : ℕ) → site_in (map site_of xs) v ≡ site_of (start_in xs v)
-site_map xs v = ap (from_option idle_site (λ (x : Site). x)) (nth_map site_of xs v) ∙ go (nth xs v)
-  where
-    go : (o : Option (Option Start)) → from_option idle_site (λ (x : Site). x) (option_map site_of o) ≡ site_of (option_then o (λ s. s))
-    go None = refl
-    go (Some x) = refl
 
 abbrev stopped : ℕ → ℕ → Site
 stopped n m = record { number = n; renewal = m; later = false }

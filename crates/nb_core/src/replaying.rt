@@ -6,7 +6,8 @@ ghost use Rattle.nb_history.specs.Log.{reading as reading_of, Fits, IsLegal};
 ghost use Rattle.nb_history.specs.Reading.{owed};
 ghost use Rattle.nb_history.specs.Rules.{ready, may_start, next};
 ghost use Rattle.nb_closing.specs.Ties.{all_ties};
-ghost use Rattle.nb_core.specs.Parts.{AreParts, is_edit as edits};
+ghost use Rattle.nb_core.specs.Edits.{is_edit as is_of_edit};
+ghost use Rattle.nb_core.specs.Parts.{AreParts};
 
 use crate::doing::done_of;
 use crate::machine::Machine;
@@ -209,7 +210,7 @@ fn replay(
 
 /// Whether an entry is that of an edit.
 fn is_edit(entry: &Entry) -> bool
-    ensures { result ≡ edits entry.now }
+    ensures { result ≡ is_of_edit entry.now }
 {
     matches!(entry, Entry::Edit { .. })
 }
@@ -237,11 +238,7 @@ fn replay_next(
 ///
 /// It costs an evaluation for each entry that work gave, a scan over the rows for each name of each cell at each edit, and a
 /// look at each start at each frame and each start of a variable.
-pub fn reading(
-    alloc: Global,
-    log: &Log,
-    builtins: &Pairs<Value>,
-) -> Result<Reading, AllocError>
+pub fn reading(alloc: Global, log: &Log, builtins: &Pairs<Value>) -> Result<Reading, AllocError>
     requires legal { IsLegal builtins.now log.now.entries }
     requires few { length builtins.now ≤ 65536 }
     ensures { IfOk result (λ left. AreParts left (reading_of builtins.now log.now.entries)) }

@@ -1,6 +1,5 @@
-use Rattle.std.proofs.Common.{◌≡◌, ◌+◌, ◌∷◌, List, drop, arith}
+use Rattle.std.proofs.Common.{◌+◌, drop, arith}
 use Rattle.std.proofs.lemmas.List.{drop_all}
-use Rattle.nb_log.specs.declared.entry.Entry.{Entry}
 use Rattle.nb_core.proofs.Replays.{replay_begins, next_left, replay_fits, replay_goes_on, replay_ends}
 use Rattle.nb_core.proofs.replaying.reading.Goals as goal
 

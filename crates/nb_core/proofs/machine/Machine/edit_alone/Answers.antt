@@ -1,4 +1,4 @@
-use Rattle.std.proofs.Common.{◌≡◌, ◌∙◌, ap, refl, ◌+◌, length, List, [], ◌∷◌, ◌++◌}
+use Rattle.std.proofs.Common.{◌∙◌, ap, refl, ◌+◌, length, List, [], ◌∷◌, ◌++◌}
 use Rattle.nb_log.specs.declared.entry.Entry.{Entry}
 use Rattle.nb_log.specs.declared.entry.Entry.TheVariants.{Edit}
 use Rattle.nb_core.specs.Stands.{Kept}
