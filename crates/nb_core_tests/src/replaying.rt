@@ -85,7 +85,11 @@ fn five(alloc: Global) -> Result<Event, AllocError> {
 fn run(alloc: Global, core: &mut Core) -> Result<(), Fail> {
     add(alloc, core, "x = { cleanup 7; return 1; }")?;
     add(alloc, core, "y = x + fetch(\"k\")")?;
-    add(alloc, core, "n = { let i = 0; while (true) { yield i; i = i + 1; } }")?;
+    add(
+        alloc,
+        core,
+        "n = { let i = 0; while (true) { yield i; i = i + 1; } }",
+    )?;
     settle(core)?;
     let cell = cell(alloc, "x = 2")?;
     edit(core, Edit::Define { variable: 1, cell })?;
