@@ -21,7 +21,6 @@ use Rattle.nb_doc.specs.declared.form.Field.{Field}
 use Rattle.nb_doc.specs.Forms.{Row, field_name, field_case, field_fault, is_among, head_fault}
 use Rattle.nb_doc.specs.Contents.{text_fault}
 use Rattle.nb_doc.specs.Loading.{member_fault, members_fault}
-use Rattle.nb_doc.specs.declared.document.Document.{Document}
 use Rattle.nb_doc.specs.Documents.{first_fault, Reads}
 
 pub here_fails : (r : DocReason) (e : DocFail) → e ≡ fail.Bad [] r → Fails (Some (here r)) e
@@ -101,7 +100,7 @@ told_of fault p r (inl e) = absurd (cc)
 told_of fault p r (inr told) =
     subst (λ (q : List ℕ). IsTold fault q r) (sym (same_path p told.0 r told.1 told.2)) (subst (IsTold fault told.0) (sym (same_reason p told.0 r told.1 told.2)) told.3)
 
-pub reads_of : (fault : Option Fault) (document : Option Document) (r : Result Document DocFail) → IfOk r (λ d. fault ≡ None) → IfOk r (λ d. document ≡ Some d) → IfErr r (Fails fault) → Reads fault document r
-reads_of fault document (Ok d) good said bad = (good, said)
-reads_of fault document (Err (fail.Bad p r)) good said bad = told_of fault p r bad
-reads_of fault document (Err fail.Memory) good said bad = tt
+pub reads_of : {X : Type 0} (fault : Option Fault) (given : Option X) (r : Result X DocFail) → IfOk r (λ x. fault ≡ None) → IfOk r (λ x. given ≡ Some x) → IfErr r (Fails fault) → Reads fault given r
+reads_of fault given (Ok x) good said bad = (good, said)
+reads_of fault given (Err (fail.Bad p r)) good said bad = told_of fault p r bad
+reads_of fault given (Err fail.Memory) good said bad = tt

@@ -5,3 +5,4 @@ pub mod CountingLemmas
 pub mod KeyLemmas
 pub mod Once
 pub mod LoaderLemmas
+pub mod UpgradeLemmas

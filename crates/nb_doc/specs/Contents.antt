@@ -1,5 +1,5 @@
 -- What data is as a field of each kind, and its faults there.
-use Rattle.std.specs.Prelude.{ℕ, Bool, true, false, List, [], position, nat_lt, Option, Some, None, is_some, option_and_then, unwrap_or, if◌then◌else◌}
+use Rattle.std.specs.Prelude.{ℕ, Bool, List, [], position, nat_lt, Option, Some, None, is_some, option_and_then, unwrap_or, if◌then◌else◌}
 use Rattle.std.specs.Str.{bytes_eq}
 use Rattle.serde_json.specs.Data.{Data}
 use Rattle.serde_json.specs.Find.{get, as_bool, as_str}

@@ -59,11 +59,11 @@ first_fault bytes = fault_case (line_data bytes)
 unfoldable pub document_of : List ℕ → Option Document
 document_of bytes = option_and_then data_document (line_data bytes)
 
--- what is read is the document, where there is no fault; else the first fault comes; memory may run out
-abbrev pub Reads : Option Fault → Option Document → Result Document DocFail → Type 0
-Reads fault document (Ok d) = (fault ≡ None) × (document ≡ Some d)
-Reads fault document (Err (Bad path reason)) = IsTold fault path reason
-Reads fault document (Err Memory) = ⊤
+-- what comes is what the bytes give, where there is no fault; else the first fault comes; memory may run out
+abbrev pub Reads : {X : Type 0} → Option Fault → Option X → Result X DocFail → Type 0
+Reads fault given (Ok x) = (fault ≡ None) × (given ≡ Some x)
+Reads fault given (Err (Bad path reason)) = IsTold fault path reason
+Reads fault given (Err Memory) = ⊤
 
 abbrev pub ReadsDocument : List ℕ → Result Document DocFail → Type 0
 ReadsDocument bytes result = Reads (first_fault bytes) (document_of bytes) result

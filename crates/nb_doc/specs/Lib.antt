@@ -7,3 +7,4 @@ pub mod Loading
 pub mod Numbers
 pub mod Says
 pub mod Documents
+pub mod Upgraded

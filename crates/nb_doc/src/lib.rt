@@ -1,4 +1,5 @@
-//! Files of notebooks: which of them is read, the lines that it stands for, its builtins and its loaders.
+//! Files of notebooks: which of them is read, the lines that it stands for, its builtins and its loaders; and what it is in
+//! version 2.
 #![tactic(auto)]
 
 mod around;
@@ -8,6 +9,7 @@ mod contents;
 mod count;
 mod document;
 mod fail;
+mod floats;
 mod form;
 mod item;
 mod lines;
@@ -19,8 +21,10 @@ mod place;
 mod read;
 mod reason;
 mod specifiers;
+mod upgraded;
 mod walk;
 
 pub use document::{Document, Loader, Loaders};
 pub use read::read_document;
 pub use reason::{DocFail, DocReason};
+pub use upgraded::upgrade;

@@ -9,17 +9,21 @@ ghost use Rattle.nb_doc.specs.declared.reason.DocReason.TheVariants as reason;
 ghost use Rattle.nb_doc.specs.declared.reason.DocFail.TheVariants.{Bad};
 ghost use Rattle.nb_doc.specs.Faults.{Fails, IsTold};
 ghost use Rattle.nb_doc.specs.Forms.{needs, field_fault};
-ghost use Rattle.nb_doc.specs.Documents.{version_in as version_in_data, version_fault, version_at, data_fault, data_document, first_fault, document_of, ReadsDocument, UnlessMemory};
+ghost use Rattle.nb_doc.specs.Modules.{modules_at};
+ghost use Rattle.nb_doc.specs.Loading.{builtins_of, loaders_of};
+ghost use Rattle.nb_doc.specs.Documents.{version_in as version_in_data, version_fault, version_at, is_named, data_fault, data_document, first_fault, document_of, ReadsDocument, UnlessMemory};
 
 use crate::builtins::builtins_field;
-use crate::document::Document;
+use crate::document::{Document, Loaders};
 use crate::fail::{here, missing, wrong_at};
 use crate::form::Field;
 use crate::lines::lines_of;
 use crate::loaders::loaders_field;
+use crate::module::Module;
 use crate::modules::modules_field;
 use crate::object::test_object;
 use crate::reason::{DocFail, DocReason};
+use nb_value::{Pairs, Value};
 use serde_json::{Category, Value as Tree};
 use std::alloc::Global;
 
@@ -47,7 +51,8 @@ fn document_of_bytes(alloc: Global, bytes: &[u8]) -> Result<Document, DocFail>
     document_of_tree(alloc, &tree)
 }
 
-fn tree_of(alloc: Global, bytes: &[u8]) -> Result<Tree, DocFail>
+/// The JSON that the bytes are.
+pub fn tree_of(alloc: Global, bytes: &[u8]) -> Result<Tree, DocFail>
     ensures said { IfOk result (λ tree. line_data bytes.now ≡ Some (view tree)) }
     ensures bad { IfErr result (Fails (first_fault bytes.now)) }
 {
@@ -94,10 +99,44 @@ fn version_field(alloc: Global, tree: &Tree) -> Result<bool, DocFail>
     }
 }
 
-#[tactic(auto, unfolding(crate::specs::Forms::object_fault, crate::specs::Documents::data_fault, crate::specs::Documents::data_document))]
+#[tactic(auto, unfolding(crate::specs::Documents::data_document))]
 fn document_of_tree(alloc: Global, tree: &Tree) -> Result<Document, DocFail>
     ensures good { IfOk result (λ d. data_fault (view tree.now) ≡ None) }
     ensures said { IfOk result (λ d. data_document (view tree.now) ≡ Some d) }
+    ensures bad { IfErr result (Fails (data_fault (view tree.now))) }
+{
+    let Parts {
+        builtins,
+        modules,
+        loaders,
+        ..
+    } = parts_of_tree(alloc, tree)?;
+    let lines = lines_of(alloc, modules)?;
+    Ok(Document {
+        builtins,
+        lines,
+        loaders,
+    })
+}
+
+/// What a document has in its fields.
+#[derive(Drop)]
+pub struct Parts {
+    /// Whether its modules have names, as they have in version 2.
+    pub named: bool,
+    pub builtins: Pairs<Value>,
+    pub modules: Vec<Module>,
+    pub loaders: Loaders,
+}
+
+/// The fields of a document, each in its turn.
+#[tactic(auto, unfolding(crate::specs::Forms::object_fault, crate::specs::Documents::data_fault))]
+pub fn parts_of_tree(alloc: Global, tree: &Tree) -> Result<Parts, DocFail>
+    ensures good { IfOk result (λ p. data_fault (view tree.now) ≡ None) }
+    ensures named { IfOk result (λ p. is_named (view tree.now) ≡ p.named) }
+    ensures builtins { IfOk result (λ p. builtins_of (view tree.now) ≡ p.builtins) }
+    ensures modules { IfOk result (λ p. modules_at p.named (view tree.now) ≡ Some p.modules.items) }
+    ensures loaders { IfOk result (λ p. loaders_of (view tree.now) ≡ p.loaders) }
     ensures bad { IfErr result (Fails (data_fault (view tree.now))) }
 {
     test_object(
@@ -114,10 +153,10 @@ fn document_of_tree(alloc: Global, tree: &Tree) -> Result<Document, DocFail>
     let builtins = builtins_field(alloc, tree)?;
     let modules = modules_field(alloc, named, tree)?;
     let loaders = loaders_field(alloc, tree)?;
-    let lines = lines_of(alloc, modules)?;
-    Ok(Document {
+    Ok(Parts {
+        named,
         builtins,
-        lines,
+        modules,
         loaders,
     })
 }

@@ -7,3 +7,5 @@
 mod documents;
 #[cfg(test)]
 mod faults;
+#[cfg(test)]
+mod upgrades;
