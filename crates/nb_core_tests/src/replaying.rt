@@ -30,11 +30,16 @@ fn outcome(left: &Reading, var: u32) -> Option<&Outcome> {
     }
 }
 
-fn shows(left: &Reading, var: u32, n: i64) -> bool {
-    match outcome(left, var) {
+fn is_number(shown: Option<&Outcome>, n: i64) -> bool {
+    match shown {
         Some(Outcome::Value(Value::Int(m))) => *m == n,
         _ => false,
     }
+}
+
+// Whether a variable shows a number in the core.
+fn shows_now(core: &Core, var: u32, n: i64) -> bool {
+    is_number(core.outcome(var), n)
 }
 
 // Whether a variable has the start that it has in the core, and shows the same.
@@ -55,16 +60,16 @@ fn one_cell_is_read_again(rt: HostRuntime) -> Result<(), Fail> {
     settle(&mut core)?;
     assert_eq!(rt; core.log().len(), 3);
     let left = read(alloc, &core)?;
-    assert!(rt; shows(&left, 1, 3));
+    assert!(rt; is_number(outcome(&left, 1), 3));
     assert_eq!(rt; number(&left, 1), 2);
     assert_eq!(rt; left.starts.len(), 1);
     assert!(rt; !left.disposed);
     Ok(())
 }
 
-// Takes an event, and does what is ready then.
-fn take(core: &mut Core, event: Event) -> Result<(), Fail> {
-    match core.event(0, event) {
+// Does what is ready once an event is in.
+fn done(core: &mut Core, placed: Result<u64, (Event, AllocError)>) -> Result<(), Fail> {
+    match placed {
         Ok(_) => Ok(settle(core)?),
         Err(back) => {
             drop(back);
@@ -73,12 +78,17 @@ fn take(core: &mut Core, event: Event) -> Result<(), Fail> {
     }
 }
 
-// The answer of 5 to the fetch with the key "k".
-fn five(alloc: Global) -> Result<Event, AllocError> {
-    Ok(Event::Settle {
-        target: Target::Key(Text::from_str(alloc, "k")?),
-        answer: Answer::Value(Value::Int(5)),
-    })
+// The fetch with the key "k" is answered with 5.
+fn answer_five(alloc: Global, core: &mut Core) -> Result<(), Fail> {
+    let target = Target::Key(Text::from_str(alloc, "k")?);
+    let answer = Answer::Value(Value::Int(5));
+    let placed = core.event(0, Event::Settle { target, answer });
+    done(core, placed)
+}
+
+fn frame(core: &mut Core) -> Result<(), Fail> {
+    let placed = core.event(0, Event::Frame);
+    done(core, placed)
 }
 
 // A cell with a cleanup that is defined once more, one that uses it and fetches, and a generator over two frames.
@@ -94,10 +104,19 @@ fn run(alloc: Global, core: &mut Core) -> Result<(), Fail> {
     let cell = cell(alloc, "x = 2")?;
     edit(core, Edit::Define { variable: 1, cell })?;
     settle(core)?;
-    let answer = five(alloc)?;
-    take(core, answer)?;
-    take(core, Event::Frame)?;
-    take(core, Event::Frame)
+    answer_five(alloc, core)?;
+    frame(core)?;
+    frame(core)
+}
+
+// Whether the log leaves the three variables as they are in the core, and so many tickets.
+fn is_read(alloc: Global, core: &Core, tickets: usize, disposed: bool) -> Result<bool, AllocError> {
+    let left = read(alloc, core)?;
+    Ok(
+        (1..4).all(|v| agrees(core, &left, v))
+            && left.tickets.len() == tickets
+            && left.disposed == disposed,
+    )
 }
 
 #[test]
@@ -105,26 +124,10 @@ fn a_run_is_read_again(rt: HostRuntime) -> Result<(), Fail> {
     let alloc = rt.alloc();
     let mut core = Core::new(alloc, Pairs::new(alloc))?;
     run(alloc, &mut core)?;
-    let left = read(alloc, &core)?;
-    assert!(rt; shows(&left, 2, 7));
-    assert!(rt; shows(&left, 3, 2));
-    assert!(rt; agrees(&core, &left, 1));
-    assert!(rt; agrees(&core, &left, 2));
-    assert!(rt; agrees(&core, &left, 3));
-    Ok(())
-}
-
-#[test]
-fn a_disposed_run_is_read_again(rt: HostRuntime) -> Result<(), Fail> {
-    let alloc = rt.alloc();
-    let mut core = Core::new(alloc, Pairs::new(alloc))?;
-    run(alloc, &mut core)?;
-    take(&mut core, Event::Dispose)?;
-    let left = read(alloc, &core)?;
-    assert!(rt; left.disposed);
-    assert_eq!(rt; left.tickets.len(), 2);
-    assert!(rt; agrees(&core, &left, 1));
-    assert!(rt; agrees(&core, &left, 2));
-    assert!(rt; agrees(&core, &left, 3));
+    assert!(rt; shows_now(&core, 2, 7) && shows_now(&core, 3, 2));
+    assert!(rt; is_read(alloc, &core, 2, false)?);
+    let placed = core.event(0, Event::Dispose);
+    done(&mut core, placed)?;
+    assert!(rt; is_read(alloc, &core, 2, true)?);
     Ok(())
 }
