@@ -1,0 +1,7 @@
+//! Words of command lines through the public call of `nb_cli`. There is nothing here to run but tests.
+//!
+//! They stand apart from what they test, since a crate that holds tests is proved once more with them.
+#![tactic(auto)]
+
+#[cfg(test)]
+mod words;
