@@ -4,8 +4,10 @@ ghost use Rattle.nb_io.specs.declared.spawner.ChildRun.{ChildRun};
 ghost use Rattle.nb_io.specs.Causes.{HasCauseAt};
 ghost use Rattle.nb_io.specs.Runs.{AddsAnswer};
 
+use crate::ReadFail;
 use nb_value::{Argv, Bytes};
 use std::alloc::{AllocError, AllocFailed};
+use std::io;
 
 /// How a child ended, with what it printed.
 #[derive(Debug, Drop)]
@@ -46,6 +48,30 @@ impl<T: Drop> From<AllocFailed<T>> for SpawnFail {
 
     fn from(_: AllocFailed<T>) -> SpawnFail {
         SpawnFail::Memory
+    }
+}
+
+impl From<ReadFail> for SpawnFail {
+    ghost use Rattle.std.specs.Prelude.{◌≡◌};
+    ghost use Rattle.nb_io.specs.Causes.{spawn_fail};
+
+    ghost from_gives = { λ fail e. e ≡ spawn_fail fail };
+
+    fn from(fail: ReadFail) -> SpawnFail {
+        match fail {
+            ReadFail::Fault => SpawnFail::Failed,
+            ReadFail::TooLong(_) => SpawnFail::TooLong,
+            ReadFail::Memory => SpawnFail::Memory,
+        }
+    }
+}
+
+impl From<io::Error> for SpawnFail {
+    fn from(error: io::Error) -> SpawnFail {
+        match error.kind() {
+            io::ErrorKind::OutOfMemory => SpawnFail::Memory,
+            _ => SpawnFail::Failed,
+        }
     }
 }
 

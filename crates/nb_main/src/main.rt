@@ -19,8 +19,8 @@ use std::{env, io};
 fn main(rt: HostRuntime) -> ExitCode {
     let alloc = rt.alloc();
     let mut input = StdSource::new(rt.stdin());
-    let mut files = StdFiles::new();
-    let mut programs = StdSpawner::new();
+    let mut files = StdFiles::new(alloc, &rt);
+    let mut programs = StdSpawner::new(alloc, &rt);
     let mut out = StdSink::new(rt.stdout());
     let mut notes = StdSink::new(rt.stderr());
     let status = match words_of(&rt) {

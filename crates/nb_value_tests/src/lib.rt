@@ -9,4 +9,6 @@ mod graphs;
 #[cfg(test)]
 mod streams;
 #[cfg(test)]
+mod system;
+#[cfg(test)]
 mod values;
