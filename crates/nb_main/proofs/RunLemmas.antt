@@ -1,66 +1,74 @@
 -- A run of lines keeps their history, and what is promised of it.
-use Rattle.std.proofs.Common.{ℕ, zero, suc, ◌≡◌, ◌<◌, ◌≤◌, ◌+◌, refl, sym, ◌∙◌, ap, subst, List, [], ◌∷◌, length, drop, get_or, drop-cons, add-one, arith, Result, Ok, Err, OnOk, IfOk, IfErr}
+use Rattle.std.proofs.Common.{ℕ, zero, suc, ◌≡◌, ◌<◌, ◌≤◌, ◌+◌, refl, sym, ◌∙◌, ap, subst, List, [], ◌∷◌, ◌++◌, append-nil, length, drop, get_or, drop-cons, add-one, arith, Result, Ok, Err, OnOk, IfOk, IfErr}
 use Rattle.nb_value.specs.declared.value.Value.{Value}
 use Rattle.nb_value.specs.declared.pairs.Field.{Field}
+use Rattle.nb_log.specs.declared.event.Event.{Event}
 use Rattle.nb_history.specs.Log.{IsLegal, NothingReady}
-use Rattle.nb_history.specs.Serial.{IsSerial}
+use Rattle.nb_history.specs.Serial.{IsSerial, least_var}
+use Rattle.nb_history.specs.Rules.{ready}
 use Rattle.nb_history.specs.History.{History, standing, IsClosedHistory}
 use Rattle.nb_history.specs.Headline.{IsHistoryOf}
 use Rattle.nb_history.proofs.HistoryThere.{history_alone}
 use Rattle.nb_history.proofs.Shapes.{sound_reading}
 use Rattle.nb_history.proofs.Serials.{none_ready}
+use Rattle.nb_core.specs.Core.{Settles}
 use Rattle.nb_core.proofs.Runs.{IsRun, run_goes_on, run_ends}
-use Rattle.nb_lines.specs.declared.script.ScriptLine.{ScriptLine}
-use Rattle.nb_lines.specs.Lines.{script_lines}
-use Rattle.nb_main.specs.Run.{TakesLine}
+use Rattle.nb_main.specs.Run.{TakesLine, TakesLines}
+
+-- ---- the history of the lines
 
 -- of the lines, those that are left are still to come, and all that is promised holds so far
-pub record IsRunning (lines left : List ScriptLine) (h : History) : Type 0 where
-  pub run : IsRun [] (script_lines lines) (script_lines left) h
-  pub legal : IsLegal h.builtins h.log
+record IsRunning (builtins : List (Field Value)) (lines left : List (ℕ × Event)) (h : History) : Type 0 where
+  run : IsRun builtins lines left h
+  legal : IsLegal h.builtins h.log
 
-abbrev pub empty : History
-empty = record { builtins = []; log = [] }
+abbrev pub empty : List (Field Value) → History
+empty builtins = record { builtins = builtins; log = [] }
 
-pub running_begins : (lines : List ScriptLine) → IsRunning lines lines empty
-running_begins lines =
+running_begins : (builtins : List (Field Value)) (lines : List (ℕ × Event)) → IsRunning builtins lines lines (empty builtins)
+running_begins builtins lines =
     record {
       run = record { over = refl; steps = refl; closed = refl; done = refl };
       legal = tt;
     }
 
-pub running_goes_on : (lines left : List ScriptLine) (line : ScriptLine) (old new : History) → IsRunning lines (line ∷ left) old → TakesLine old line new → IsClosedHistory new → IsRunning lines left new
-running_goes_on lines left line old new so_far takes closed =
+running_goes_on : (builtins : List (Field Value)) (lines left : List (ℕ × Event)) (line : ℕ × Event) (old new : History) → IsRunning builtins lines (line ∷ left) old → TakesLine old line new
+    → IsRunning builtins lines left new
+running_goes_on builtins lines left line old new so_far takes =
     record {
-      run = run_goes_on [] (script_lines lines) (script_lines left) line.editor line.event old takes.mid new so_far.run takes.gains takes.settles closed.closed;
-      legal = closed.legal;
+      run = run_goes_on builtins lines left line.0 line.1 old takes.mid new so_far.run takes.gains takes.settles takes.closed.closed;
+      legal = takes.closed.legal;
     }
 
--- before the next line nothing is ready
-pub rests_before : (lines left : List ScriptLine) (h : History) → IsRunning lines left h → NothingReady (standing h)
-rests_before lines left h so_far = none_ready (standing h) (sound_reading h.builtins h.log) so_far.run.done
+runs : (builtins : List (Field Value)) (lines more left : List (ℕ × Event)) (old new : History) → TakesLines more old new → IsRunning builtins lines (more ++ left) old → IsRunning builtins lines left new
+runs builtins lines [] left old new takes so_far = subst (IsRunning builtins lines left) takes so_far
+runs builtins lines (line ∷ more) left old new takes so_far =
+    runs builtins lines more left takes.0 new takes.2 (running_goes_on builtins lines (more ++ left) line old takes.0 so_far takes.1)
 
--- the next of the lines that are left
-pub next_line : (lines all : List ScriptLine) (i : ℕ) (d : ScriptLine) (h : History) → i < length all → IsRunning lines (drop i all) h → IsRunning lines (get_or all i d ∷ drop (i + 1) all) h
-next_line lines all i d h below so_far =
-    subst (λ (left : List ScriptLine). IsRunning lines left h) (drop-cons all i d below ∙ ap (λ (j : ℕ). get_or all i d ∷ drop j all) (sym (add-one i))) so_far
+history_of : (builtins : List (Field Value)) (lines : List (ℕ × Event)) (h : History) → IsRunning builtins lines [] h → (h.builtins ≡ builtins) × IsHistoryOf builtins [] lines [] h.log
+history_of builtins lines h whole = (
+  whole.run.over,
+  history_alone builtins lines h.log (subst (λ (b : List (Field Value)). IsLegal b h.log) whole.run.over whole.legal) (run_ends builtins lines h whole.run),
+)
 
-none_left : (all : List ScriptLine) (i : ℕ) → length all ≤ i → drop i all ≡ []
-none_left [] zero h = refl
-none_left [] (suc i) h = refl
-none_left (x ∷ xs) zero h = absurd (omega (arith, h))
-none_left (x ∷ xs) (suc i) h = none_left xs i (omega (arith, h))
+-- some lines of an empty log, and then the others
+pub whole_history : (builtins : List (Field Value)) (first others : List (ℕ × Event)) (h mid new : History) → h ≡ empty builtins → TakesLines first h mid → TakesLines others mid new
+    → (new.builtins ≡ builtins) × IsHistoryOf builtins [] (first ++ others) [] new.log
+whole_history builtins first others h mid new is one two =
+    let begun : IsRunning builtins (first ++ others) (first ++ others) h = subst (IsRunning builtins (first ++ others) (first ++ others)) (sym is) (running_begins builtins (first ++ others)) in
+    let so_far : IsRunning builtins (first ++ others) others mid = runs builtins (first ++ others) first others h mid one begun in
+    history_of builtins (first ++ others) new
+    (runs builtins (first ++ others) others [] mid new two (subst (λ (left : List (ℕ × Event)). IsRunning builtins (first ++ others) left mid) (sym (append-nil others)) so_far))
 
-pub running_ends : (lines all : List ScriptLine) (i : ℕ) (h : History) → length all ≤ i → IsRunning lines (drop i all) h → (h.builtins ≡ []) × IsHistoryOf [] [] (script_lines lines) [] h.log
-running_ends lines all i h over so_far =
-    let whole : IsRunning lines [] h = subst (λ (left : List ScriptLine). IsRunning lines left h) (none_left all i over) so_far in
-    let serial : IsSerial [] [] (script_lines lines) [] h.log = run_ends [] (script_lines lines) h whole.run in
-    let legal : IsLegal [] h.log = subst (λ (b : List (Field Value)). IsLegal b h.log) whole.run.over whole.legal in (
-      whole.run.over,
-      history_alone [] (script_lines lines) h.log legal serial,
-    )
+-- ---- a line
 
--- ---- as the calls have it
+-- where it settled, nothing is ready
+pub nothing_ready : (old new : History) → Settles old new → NothingReady (standing new)
+nothing_ready old new s = none_ready (standing new) (sound_reading new.builtins new.log) s.done
+
+-- an empty log has nothing that is ready
+pub none_at_first : (builtins : List (Field Value)) (h : History) → h ≡ empty builtins → NothingReady (standing h)
+none_at_first builtins h is = none_ready (standing h) (sound_reading h.builtins h.log) (ap (λ (x : History). least_var (standing x) (ready (standing x))) is)
 
 -- what holds where an answer came, if it came
 pub gains_of : {X Y Z W : Type 0} (r : Result X Y) (answer : Result Z W) (P : Z → Type 0) (G : Type 0) → OnOk r (IfErr answer (λ _. ⊥)) → IfOk answer (λ z. P z × G) → OnOk r G
@@ -68,12 +76,35 @@ gains_of (Ok x) (Ok z) P G came told = told.1
 gains_of (Ok x) (Err w) P G came told = absurd came
 gains_of (Err y) answer P G came told = tt
 
-pub begins_here : (lines : List ScriptLine) (h : History) (b : List (Field Value)) → b ≡ [] → h ≡ (let e : History = record { builtins = b; log = [] } in e) → IsRunning lines lines h
-begins_here lines h b none is =
-    subst (IsRunning lines lines) (sym (is ∙ ap (λ (x : List (Field Value)). let e : History = record { builtins = x; log = [] } in e) none)) (running_begins lines)
+-- ---- a list of lines
 
-pub turn : (all : List ScriptLine) (i : ℕ) (line : ScriptLine) (old new : History) → i < length all → line ≡ get_or all i line → IsRunning all (drop i all) old
-    → TakesLine old line new → IsClosedHistory new → IsRunning all (drop (i + 1) all) new
-turn all i line old new inside is so_far takes closed =
-    running_goes_on all (drop (i + 1) all) line old new
-    (subst (λ (x : ScriptLine). IsRunning all (x ∷ drop (i + 1) all) old) (sym is) (next_line all all i line old inside so_far)) takes closed
+-- what is left of them is still to be taken
+abbrev pub IsTaking : List (ℕ × Event) → List (ℕ × Event) → History → History → Type 0
+IsTaking lines left old now = (end : History) → TakesLines left now end → TakesLines lines old end
+
+pub next_of : {X : Type 0} (all : List X) (i : ℕ) (d x : X) → i < length all → x ≡ get_or all i d → drop i all ≡ x ∷ drop (i + 1) all
+next_of all i d x below is = drop-cons all i d below ∙ ap (λ (j : ℕ). get_or all i d ∷ drop j all) (sym (add-one i)) ∙ ap (λ y. y ∷ drop (i + 1) all) (sym is)
+
+pub none_left : {X : Type 0} (all : List X) (i : ℕ) → length all ≤ i → drop i all ≡ []
+none_left [] zero h = refl
+none_left [] (suc i) h = refl
+none_left (x ∷ xs) zero h = absurd (omega (arith, h))
+none_left (x ∷ xs) (suc i) h = none_left xs i (omega (arith, h))
+
+-- one more of them is taken
+pub takes_on : {X : Type 0} (as_lines : List X → List (ℕ × Event)) (lines : List (ℕ × Event)) (line : ℕ × Event) (all : List X) (i : ℕ) (old mid new : History)
+    → as_lines (drop i all) ≡ line ∷ as_lines (drop (i + 1) all) → IsTaking lines (as_lines (drop i all)) old mid → TakesLine mid line new
+    → IsTaking lines (as_lines (drop (i + 1) all)) old new
+takes_on as_lines lines line all i old mid new is so_far takes =
+    λ end rest. so_far end (subst (λ (left : List (ℕ × Event)). TakesLines left mid end) (sym is) (new, takes, rest))
+
+-- none is left
+pub takes_all : {X : Type 0} (as_lines : List X → List (ℕ × Event)) (lines : List (ℕ × Event)) (all : List X) (i : ℕ) (old new : History)
+    → as_lines [] ≡ [] → length all ≤ i → IsTaking lines (as_lines (drop i all)) old new → TakesLines lines old new
+takes_all as_lines lines all i old new none over so_far =
+    so_far new (subst (λ (left : List (ℕ × Event)). TakesLines left new new) (sym (ap as_lines (none_left all i over) ∙ none)) refl)
+
+-- what is left is still to be taken, and nothing is ready
+pub record IsBetween (lines left : List (ℕ × Event)) (old now : History) : Type 0 where
+  pub taking : IsTaking lines left old now
+  pub rest : NothingReady (standing now)

@@ -1,4 +1,5 @@
-pub mod Command
+pub mod Task
+pub mod Ends
 pub mod Outcome
 pub mod Answers
 pub mod Causes

@@ -1,24 +1,18 @@
--- What the bytes of an input come to.
-use Rattle.std.specs.Prelude.{◌≡◌, ◌<◌, ◌≤◌, ℕ, List, [], length, None, Result}
-use Rattle.std.specs.declared.result.Result.TheVariants.{Ok, Err}
+-- What the bytes of a document and of an input come to.
+use Rattle.std.specs.Prelude.{◌≡◌, ◌<◌, ◌≤◌, ℕ, List, [], ◌∷◌, ◌++◌, length, map, None}
 use Rattle.nb_lines.specs.Lines.{first_bad, scripts, script_lines, IsBad}
-use Rattle.nb_lines.specs.declared.script.LineFail.{LineFail}
-use Rattle.nb_lines.specs.declared.script.LineFail.TheVariants as fail
+use Rattle.nb_log.specs.declared.event.Event.{Event}
 use Rattle.nb_log.specs.declared.entry.Entry.{Entry}
+use Rattle.nb_doc.specs.declared.document.Document.{Document}
+use Rattle.nb_doc.specs.Faults.{IsTold}
+use Rattle.nb_doc.specs.Documents.{first_fault}
 use Rattle.nb_history.specs.Headline.{IsHistoryOf}
 use Rattle.nb_history.specs.Print.{printing}
 use Rattle.nb_main.specs.declared.status.Status.{Status}
 use Rattle.nb_main.specs.declared.status.Status.TheVariants as status
-use Rattle.nb_main.specs.declared.answer.Refused.{Refused}
-use Rattle.nb_main.specs.declared.answer.Refused.TheVariants as refused
+use Rattle.nb_main.specs.Ends.{limit}
 
--- The most bytes that an input may have.
-abbrev pub limit : ℕ
-limit = 4194304
-
-abbrev pub refused_by : LineFail → Refused
-refused_by (fail.Bad line reason) = refused.Bad line reason
-refused_by fail.Memory = refused.Memory
+-- ---- an input
 
 -- The bytes of an input are refused with this status: they are too many, or else a line is bad.
 abbrev pub IsRefusal : List ℕ → Status → Type 0
@@ -31,14 +25,46 @@ pub record IsReadable (bytes : List ℕ) : Type 0 where
   pub fits : length bytes ≤ limit
   pub good : first_bad bytes ≡ None
 
--- The text is the printing of the history of the lines that the bytes are.
-pub record IsOutcome (bytes text : List ℕ) : Type 0 where
-  pub log : List Entry
-  pub history : IsHistoryOf [] [] (script_lines (scripts bytes)) [] log
-  pub printed : text ≡ printing [] log
+-- ---- a document
 
--- An answer to bytes: their outcome, or why they are refused. Memory may run out.
-abbrev pub IsAnswer : List ℕ → Result (List ℕ) Refused → Type 0
-IsAnswer bytes (Ok text) = IsReadable bytes × IsOutcome bytes text
-IsAnswer bytes (Err (refused.Bad line reason)) = IsBad (first_bad bytes) line reason
-IsAnswer bytes (Err refused.Memory) = Unit {0}
+-- The bytes of a document are refused with this status: they are too many, or else it has a first fault.
+abbrev pub IsDocumentRefusal : List ℕ → Status → Type 0
+IsDocumentRefusal bytes (status.TooLong n) = (n ≡ limit) × (limit < length bytes)
+IsDocumentRefusal bytes (status.BadDocument path reason) = (length bytes ≤ limit) × IsTold (first_fault bytes) path reason
+IsDocumentRefusal bytes _ = ⊥
+
+-- The bytes of a document aren't refused.
+pub record IsReadableDocument (bytes : List ℕ) : Type 0 where
+  pub fits : length bytes ≤ limit
+  pub good : first_fault bytes ≡ None
+
+-- without a file there are no builtins, no lines and no loaders
+abbrev pub no_document : Document
+no_document = record { builtins = []; lines = []; loaders = [] }
+
+-- the lines that a document stands for, which are of editor 0
+abbrev pub opening_lines : List Event → List (ℕ × Event)
+opening_lines events = map (λ (event : Event). (0, event)) events
+
+-- ---- a run
+
+-- the document's lines, and then those that the input's bytes are
+abbrev pub all_lines : Document → List ℕ → List (ℕ × Event)
+all_lines document input = opening_lines document.lines ++ script_lines (scripts input)
+
+-- The text is the printing of the history of these lines, over the document's builtins. No loader is run.
+pub record IsOutcome (document : Document) (input text : List ℕ) : Type 0 where
+  pub log : List Entry
+  pub history : IsHistoryOf document.builtins [] (all_lines document input) [] log
+  pub printed : text ≡ printing document.builtins log
+
+-- the bytes are readable, and this comes of them
+pub record GivesRun (document : Document) (input text : List ℕ) : Type 0 where
+  pub readable : IsReadable input
+  pub outcome : IsOutcome document input text
+
+-- a line of bytes that aren't too many is bad; memory may run out
+abbrev pub RefusesLines : List ℕ → Status → Type 0
+RefusesLines bytes status.Memory = Unit {0}
+RefusesLines bytes (status.BadInput line reason) = IsRefusal bytes (status.BadInput line reason)
+RefusesLines bytes _ = ⊥

@@ -1,28 +1,31 @@
-ghost use Rattle.std.specs.Prelude.{◌≡◌};
-ghost use Rattle.nb_main.specs.Answers.{Answers, seen};
+ghost use Rattle.std.specs.Prelude.{◌≡◌, ℕ, List};
+ghost use Rattle.nb_main.specs.Task.{file_in, task};
+ghost use Rattle.nb_main.specs.Ends.{ended};
+ghost use Rattle.nb_main.specs.Answers.{Answers, AsksFor, StaysUnread, seen, seen_files};
 ghost use Rattle.nb_main.specs.Causes.{Causes};
 ghost use Rattle.nb_main.specs.Notes.{note, Notes};
 
-use crate::answer::{LIMIT, Refused, answer};
 use crate::notes::tell;
+use crate::outcome::text_of;
 use crate::status::Status;
-use crate::words::read_words;
-use nb_io::{Failed, Files, ReadFail, Sink, Source, Spawner, read_to_end, write_whole};
+use crate::task::read_task;
+use nb_io::{Files, Sink, Source, Spawner, write_whole};
 use nb_value::Words;
 use std::alloc::Global;
 
-/// Does all that the program does: reads the words and the input, runs the lines and writes their
-/// history to `out`, or tells on `notes` why it could not. It never waits for another thread, and
-/// returns where the objects that are handed in return.
+/// Does all that the program does: reads the words, the file that they name and the input, runs the lines and writes their
+/// history to `out`, or writes the file's document as one of version 2; or tells on `notes` why it could not. It never
+/// waits for another thread, and returns where the objects that are handed in return. No program is run yet: a fetch waits
+/// until a line settles it.
 ///
-/// All lines are read and checked before the first is done, and the whole history stands before its
+/// The document, and all lines, are read and checked before the first is done, and the whole history stands before its
 /// first byte is written. A fault of `notes` changes nothing.
 #[tactic(auto, using(crate::proofs::CausesLemmas::causes))]
 pub fn notebook<S: Source, F: Files, P: Spawner, K: Sink, E: Sink>(
     alloc: Global,
     words: &Words,
     input: &mut S,
-    _files: &mut F,
+    files: &mut F,
     _programs: &mut P,
     out: &mut K,
     notes: &mut E,
@@ -30,16 +33,24 @@ pub fn notebook<S: Source, F: Files, P: Spawner, K: Sink, E: Sink>(
     ensures answer { Answers result (record {
       words = words.now;
       input = seen S.left S.faults input.old input.new;
+      files = seen_files F.file_of F.faults files.old files.new;
       out = seen K.written K.faults out.old out.new;
     }) }
     ensures causes { Causes result (record {
       words = words.now;
       input = seen S.left S.faults input.old input.new;
+      files = seen_files F.file_of F.faults files.old files.new;
       out = seen K.written K.faults out.old out.new;
     }) }
+    ensures asks { AsksFor (file_in words.now) (F.asked files.old) (F.asked files.new) }
+    ensures unread { StaysUnread (task words.now) (seen S.left S.faults input.old input.new) }
+    ensures stays { (n : List ℕ) → F.file_of files.new n ≡ F.file_of files.old n }
     ensures notes { Notes (note result) (E.written notes.old) (E.written notes.new) (E.faults notes.old) (E.faults notes.new) }
 {
-    let status = run(alloc, words, input, out);
+    let status = match perform(alloc, words, input, files, out) {
+        Ok(()) => Status::Ok,
+        Err(status) => status,
+    };
     let _ = tell(notes, &status);
     status
 }
@@ -53,29 +64,27 @@ pub fn without_words<E: Sink>(notes: &mut E) -> Status
     Status::Memory
 }
 
-fn run<S: Source, K: Sink>(alloc: Global, words: &Words, input: &mut S, out: &mut K) -> Status
-    ensures { Answers result (record {
+/// Does what the words ask for, or answers the status by which the call ends.
+#[tactic(auto, using(crate::proofs::CallLemmas::asks_nothing, crate::proofs::CallLemmas::unread, crate::proofs::CallLemmas::stopped))]
+fn perform<S: Source, F: Files, K: Sink>(
+    alloc: Global,
+    words: &Words,
+    input: &mut S,
+    files: &mut F,
+    out: &mut K,
+) -> Result<(), Status>
+    ensures answer { Answers (ended result) (record {
       words = words.now;
       input = seen S.left S.faults input.old input.new;
+      files = seen_files F.file_of F.faults files.old files.new;
       out = seen K.written K.faults out.old out.new;
     }) }
+    ensures asks { AsksFor (file_in words.now) (F.asked files.old) (F.asked files.new) }
+    ensures unread { StaysUnread (task words.now) (seen S.left S.faults input.old input.new) }
+    ensures stays { (n : List ℕ) → F.file_of files.new n ≡ F.file_of files.old n }
 {
-    if read_words(words).is_none() {
-        return Status::Usage;
-    }
-    let bytes = match read_to_end(alloc, input, LIMIT) {
-        Ok(bytes) => bytes,
-        Err(ReadFail::Fault) => return Status::ReadFault,
-        Err(ReadFail::TooLong(_)) => return Status::TooLong(LIMIT),
-        Err(ReadFail::Memory) => return Status::Memory,
-    };
-    let text = match answer(alloc, bytes.as_slice()) {
-        Ok(text) => text,
-        Err(Refused::Bad { line, reason }) => return Status::BadInput(line, reason),
-        Err(Refused::Memory) => return Status::Memory,
-    };
-    match write_whole(out, text.as_slice()) {
-        Ok(()) => Status::Ok,
-        Err(Failed) => Status::WriteFault,
-    }
+    let task = read_task(alloc, words)?;
+    let text = text_of(alloc, &task, input, files)?;
+    write_whole(out, text.as_slice())?;
+    Ok(())
 }

@@ -1,12 +1,13 @@
 //! The program: it runs the lines of a notebook, and writes the log of what happened and a table of what stands.
 #![tactic(auto)]
 
-mod answer;
 mod call;
 mod history;
 mod notes;
+mod outcome;
+mod reading;
 mod status;
-mod words;
+mod task;
 
 use crate::call::{notebook, without_words};
 use nb_io::{StdFiles, StdSink, StdSource, StdSpawner};
