@@ -6,3 +6,5 @@ pub mod KeyLemmas
 pub mod Once
 pub mod LoaderLemmas
 pub mod UpgradeLemmas
+pub mod Faultless
+pub mod PartLemmas

@@ -1,5 +1,5 @@
 -- The loaders of a document, and its builtins.
-use Rattle.std.specs.Prelude.{ℕ, suc, ◌+◌, ◌&&◌, Bool, List, [], ◌∷◌, ◌++◌, length, Option, Some, None, is_some, option_map, option_and_then, unwrap_or, nat_le, if◌then◌else◌}
+use Rattle.std.specs.Prelude.{ℕ, suc, ◌+◌, ◌<◌, ◌≢◌, ◌&&◌, Bool, List, [], ◌∷◌, ◌++◌, length, All, AllPairs, Option, Some, None, is_some, option_map, option_and_then, unwrap_or, nat_le, if◌then◌else◌}
 use Rattle.std.specs.Option.{option_or}
 use Rattle.std.specs.List.{list_any}
 use Rattle.std.specs.Str.{bytes_eq}
@@ -115,3 +115,13 @@ loaders_of d = unwrap_or (option_and_then loaders_in (get (field_name field.Load
 
 abbrev pub builtins_of : Data → List (Pair Value)
 builtins_of d = unwrap_or (option_and_then builtins_in (get (field_name field.Builtins) d)) []
+
+-- ---- what holds of the loaders of a document
+
+-- no two have one key
+abbrev pub HasDistinctKeys : List Loader → Type 0
+HasDistinctKeys loaders = AllPairs (λ (l m : Loader). l.key ≢ m.key) loaders
+
+-- each program has a word at least, which is its name
+abbrev pub HasWords : List Loader → Type 0
+HasWords loaders = All (λ (l : Loader). 0 < length l.argv) loaders

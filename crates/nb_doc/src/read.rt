@@ -1,5 +1,5 @@
 //! Reading a document.
-ghost use Rattle.std.specs.Prelude.{◌≡◌, ◌⊎◌, ℕ, List, [], Some, None, Err, IfOk, IfErr};
+ghost use Rattle.std.specs.Prelude.{◌≡◌, ◌≤◌, ◌⊎◌, ℕ, List, [], length, Some, None, Err, IfOk, IfErr};
 ghost use Rattle.serde_json.specs.Errors.{IsMemory};
 ghost use Rattle.serde_json.specs.View.{view};
 ghost use Rattle.nb_lines.specs.Reasons.{line_data};
@@ -10,7 +10,7 @@ ghost use Rattle.nb_doc.specs.declared.reason.DocFail.TheVariants.{Bad};
 ghost use Rattle.nb_doc.specs.Faults.{Fails, IsTold};
 ghost use Rattle.nb_doc.specs.Forms.{needs, field_fault};
 ghost use Rattle.nb_doc.specs.Modules.{modules_at};
-ghost use Rattle.nb_doc.specs.Loading.{builtins_of, loaders_of};
+ghost use Rattle.nb_doc.specs.Loading.{builtins_of, loaders_of, HasDistinctKeys, HasWords};
 ghost use Rattle.nb_doc.specs.Documents.{version_in as version_in_data, version_fault, version_at, is_named, data_fault, data_document, first_fault, document_of, ReadsDocument, UnlessMemory};
 
 use crate::builtins::builtins_field;
@@ -37,6 +37,10 @@ pub fn read_document(alloc: Global, bytes: &[u8]) -> Result<Document, DocFail>
     ensures document { ReadsDocument bytes.now result }
     // No other fault is answered, and none where there is none.
     ensures only { (path : List ℕ) (reason : Reason) → IsTold (first_fault bytes.now) path reason → UnlessMemory result (result ≡ Err (Bad path reason)) }
+    // There are at most 65,536 builtins, no two loaders have one key, and each program has a name.
+    ensures few { IfOk result (λ d. length d.builtins ≤ 65536) }
+    ensures keys { IfOk result (λ d. HasDistinctKeys d.loaders) }
+    ensures words { IfOk result (λ d. HasWords d.loaders) }
 {
     document_of_bytes(alloc, bytes)
 }
