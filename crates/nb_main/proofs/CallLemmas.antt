@@ -80,3 +80,7 @@ stopped ReadFault call does words stops nothing = record { does = does; words = 
 stopped FileFault call does words stops nothing = record { does = does; words = words; stops = stops; nothing = nothing }
 stopped (TooLong most) call does words stops nothing = record { does = does; words = words; stops = stops; nothing = nothing }
 stopped (BadDocument path reason) call does words stops nothing = record { does = does; words = words; stops = stops; nothing = nothing }
+
+pub keeps : (told : Option (List ℕ)) → Keeps told told
+keeps None = tt
+keeps (Some bytes) = refl

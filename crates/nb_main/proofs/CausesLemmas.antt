@@ -37,10 +37,6 @@ not_readable : (call : Call) (does : Task) (s : Status) → HasReadableFile call
 not_readable call does s (inl none) r = none-some r.name (sym none ∙ r.named)
 not_readable call does s (inr there) r = not_refused_document there.1 s there.4 (refusal_of call.files (file_of does) s there.0 there.1 r there.2 there.3)
 
-accepts : (files : SeenFiles) (input : Seen) (file : Option (List ℕ)) (text : List ℕ) → RunsTo files input file text → AcceptsFile files file
-run_accepts files input None text r = λ name bytes named tells. absurd (none-some name named)
-run_accepts files input (Some file) text r = named_accepts files file r.named.bytes r.named.reads
-
 accepts : (files : SeenFiles) (input : Seen) (does : Task) (text : List ℕ) → ComesTo files input does text → AcceptsFile files (file_of does)
 accepts files input (Run file) text c = document_accepts files file c.document c.named
 accepts files input (Upgrade name) text c = named_accepts files name c.bytes c.reads

@@ -44,7 +44,6 @@ fn tell_too_long<E: Sink>(notes: &mut E, most: usize) -> Result<(), Failed>
 }
 
 /// Writes that a line is bad, and why.
-#[tactic(auto, using(crate::proofs::NoteLemmas::line_told))]
 fn tell_bad_line<E: Sink>(notes: &mut E, line: u32, reason: &BadReason) -> Result<(), Failed>
     ensures writes { WritesAll (bad_line line reason.now) (E.written notes.old) (E.written notes.new) result }
     ensures cause { HasCause (E.faults notes.old) (E.faults notes.new) result }
@@ -61,7 +60,6 @@ fn tell_bad_line<E: Sink>(notes: &mut E, line: u32, reason: &BadReason) -> Resul
 }
 
 /// Writes that a document is bad at a path, and why.
-#[tactic(auto, using(crate::proofs::NoteLemmas::document_told))]
 fn tell_bad_document<E: Sink>(notes: &mut E, path: &Text, reason: &DocReason) -> Result<(), Failed>
     ensures writes { WritesAll (bad_document path.now reason.now) (E.written notes.old) (E.written notes.new) result }
     ensures cause { HasCause (E.faults notes.old) (E.faults notes.new) result }
