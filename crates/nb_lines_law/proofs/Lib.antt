@@ -1,2 +1,4 @@
 pub mod Digits
 pub mod UniqueJson
+pub mod ValueParts
+pub mod EditObjects
