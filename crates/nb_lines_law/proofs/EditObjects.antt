@@ -23,7 +23,7 @@ use Rattle.nb_parser.specs.Parse.{Parses}
 use Rattle.nb_parser.proofs.CellLaws.{one_cell}
 use Rattle.nb_parser.proofs.PrintedCell.{printed_parses}
 use Rattle.nb_lines_law.specs.Law.{IsSpelled, EditIsSpelled, EventIsSpelled}
-use Rattle.nb_lines_law.proofs.ValueParts.{same_fields, same_list, same_text, first_same, first_field, field_text, field_number, field_bool, weight}
+use Rattle.nb_lines_law.proofs.ValueParts.{same_fields, same_list, first_same, first_field, field_text, field_number, field_bool, weight}
 
 -- ---- cells
 

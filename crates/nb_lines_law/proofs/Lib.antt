@@ -2,3 +2,5 @@ pub mod Digits
 pub mod UniqueJson
 pub mod ValueParts
 pub mod EditObjects
+pub mod EntryValues
+pub mod LinesOnce

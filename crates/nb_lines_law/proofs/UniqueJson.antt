@@ -1,5 +1,5 @@
 -- Compact JSON is read in one way: what stands before a text that begins with no digit is of one value.
-use Rattle.std.proofs.Common.{◌≡◌, ℕ, zero, suc, ◌+◌, ◌^◌, ◌<◌, Bool, true, false, cond, ◌==◌, ℤ, pos, negsuc, List, [], ◌∷◌, ◌++◌, map, refl, sym, ap, ◌∙◌, subst, append_assoc, arith, Some, inl, inr, ◌⊎◌}
+use Rattle.std.proofs.Common.{◌≡◌, ℕ, ◌<◌, Bool, true, false, cond, ◌==◌, ℤ, List, [], ◌∷◌, ◌++◌, map, refl, sym, ap, ◌∙◌, subst, append_assoc, arith, Some, inl, inr}
 use Rattle.std.specs.Char.{digit_value}
 use Rattle.std.specs.List.{list_all}
 use Rattle.std.proofs.lemmas.Bool.{and_parts, ne_eqb, cases_eq}
@@ -248,3 +248,7 @@ once_roll x y is w s t h i p q e =
 -- Where the texts of two values stand before texts that begin with no digit, and all that is the same, the values are one.
 pub json_once : (v : Value) → IsReadOnce v
 json_once = ind-Value IsReadOnce once_roll
+
+-- A value's text isn't empty.
+pub json_some : (v : Value) (s : List ℕ) → has_short_numbers v ≡ true → json_text v ++ s ≡ [] → ⊥
+json_some v s h e = never_empty (out-Value v) s (sym (short-out v) ∙ h) (ap (λ (l : List ℕ). l ++ s) (sym (text-out v)) ∙ e)

@@ -1,5 +1,5 @@
 -- The lines of a log fix the log.
-use Rattle.std.specs.Prelude.{◌≡◌, ℕ, ◌^◌, List, [], ◌∷◌, map, Bool, true, nat_lt, ℤ, pos, negsuc}
+use Rattle.std.specs.Prelude.{◌≡◌, ℕ, ◌^◌, List, Bool, true, nat_lt, ℤ, pos, negsuc}
 use Rattle.std.specs.List.{AllByRecursion, list_all}
 use Rattle.nb_value.specs.declared.value.Value.{Value, fold-Value}
 use Rattle.nb_value.specs.declared.value.Value.TheOpen.{Value-F}
