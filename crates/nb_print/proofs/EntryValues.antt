@@ -15,9 +15,9 @@ use Rattle.nb_log.specs.declared.entry.Refusal.TheVariants as refusal
 use Rattle.nb_log.specs.declared.entry.Entry.{Entry}
 use Rattle.nb_log.specs.declared.entry.Entry.TheVariants.{Edit, Frame, Settled, Late, Loaded, Refused, Rest, Dispose, Pending, Fulfilled, Rejected, Asked, Ended, Left}
 use Rattle.nb_log.specs.Printing.{number, text_or_null, edit_object, event_object, kind_name, refusal_name, refusal_number, error_items, answer_items, entry_value}
-use Rattle.nb_lines_law.specs.Law.{EntryIsSpelled}
-use Rattle.nb_lines_law.proofs.ValueParts.{same_list, same_or_null, first_same, first_text, first_number, weight}
-use Rattle.nb_lines_law.proofs.EditObjects.{edits_same, events_same}
+use Rattle.nb_print.specs.Law.{EntryIsSpelled}
+use Rattle.nb_print.proofs.ValueParts.{same_list, same_or_null, first_same, first_text, first_number, text_in, weight}
+use Rattle.nb_print.proofs.EditObjects.{edits_same, events_same}
 
 -- ---- names
 
@@ -77,10 +77,6 @@ items_in : Value-F Value → List Value
 items_in (Value-F.List vs) = vs
 items_in x = []
 
-text_in : Value-F Value → List ℕ
-text_in (Value-F.Text t) = t
-text_in x = []
-
 first_in : List Value → List ℕ
 first_in [] = []
 first_in (v ∷ vs) = text_in (out-Value v)
@@ -90,7 +86,7 @@ abbrev word_of : Value → List ℕ
 word_of v = first_in (items_in (out-Value v))
 
 word_first : (word : List ℕ) (vs : List Value) → word_of (V.List (V.Text word ∷ vs)) ≡ word
-unfolding items_in text_in first_in
+unfolding items_in first_in
 word_first word vs = ap (λ (x : Value-F Value). first_in (items_in x)) (values.outs-List (V.Text word ∷ vs)) ∙ ap text_in (values.outs-Text word)
 
 abbrev entry_word : Entry → List ℕ

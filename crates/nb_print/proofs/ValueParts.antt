@@ -61,6 +61,11 @@ field_number a b m n fs gs e = let both = first_field a b (number m) (number n) 
 pub field_bool : (a b : Name) (x y : Bool) (fs gs : List (Field Value)) → field a (V.Bool x) ∷ fs ≡ field b (V.Bool y) ∷ gs → (x ≡ y) × (fs ≡ gs)
 field_bool a b x y fs gs e = let both = first_field a b (V.Bool x) (V.Bool y) fs gs e in (same_bool x y both.0, both.1)
 
+-- the text that a level is, and none for another
+abbrev pub text_in : Value-F Value → List ℕ
+text_in (Value-F.Text t) = t
+text_in x = []
+
 -- ---- a number of a text, which tells the words of a log apart
 
 abbrev pub weight : List ℕ → ℕ

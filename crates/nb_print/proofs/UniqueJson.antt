@@ -19,8 +19,8 @@ use Rattle.nb_value.specs.declared.value.Value.TheOpen.{Value-F}
 use Rattle.nb_value.specs.declared.pairs.Field.{Field}
 use Rattle.nb_value.specs.Value.{kind}
 use Rattle.nb_value.specs.Json.{json_data, json_text, data_step, members_of}
-use Rattle.nb_lines_law.specs.Law.{has_short_numbers, short_step}
-use Rattle.nb_lines_law.proofs.Digits.{Stops, numbers_once, number_begins, number_not_empty, whole_text}
+use Rattle.nb_print.specs.Law.{has_short_numbers, short_step}
+use Rattle.nb_print.proofs.Digits.{Stops, numbers_once, number_begins, number_not_empty, whole_text}
 
 -- ---- texts
 

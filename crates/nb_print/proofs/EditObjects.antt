@@ -22,19 +22,16 @@ use Rattle.nb_log.specs.Printing.{Name, field, number, specifier_object, edit_ob
 use Rattle.nb_parser.specs.Parse.{Parses}
 use Rattle.nb_parser.proofs.CellLaws.{one_cell}
 use Rattle.nb_parser.proofs.PrintedCell.{printed_parses}
-use Rattle.nb_lines_law.specs.Law.{IsSpelled, EditIsSpelled, EventIsSpelled}
-use Rattle.nb_lines_law.proofs.ValueParts.{same_fields, same_list, first_same, first_field, field_text, field_number, field_bool, weight}
+use Rattle.nb_print.specs.Law.{IsSpelled, EditIsSpelled, EventIsSpelled}
+use Rattle.nb_print.proofs.ValueParts.{same_fields, same_list, first_same, first_field, field_text, field_number, field_bool, text_in, weight}
 
 -- ---- cells
 
-cells_same : (c d : Cell) → IsSpelled c → IsSpelled d → cell_text c ≡ cell_text d → c ≡ d
+-- Cells that a text spells are one where they are printed as one.
+pub cells_same : (c d : Cell) → IsSpelled c → IsSpelled d → cell_text c ≡ cell_text d → c ≡ d
 cells_same c d p q e = one_cell (cell_text d) c d (subst (λ (t : List ℕ). Parses t c) e (printed_parses p.0 c p.1)) (printed_parses q.0 d q.1)
 
 -- ---- what an object says is done
-
-text_in : Value-F Value → List ℕ
-text_in (Value-F.Text t) = t
-text_in x = []
 
 -- the text of the field whose name has two bytes, which is `do`
 done_in : List (Field Value) → List ℕ
@@ -66,12 +63,12 @@ abbrev done_of : Value → List ℕ
 done_of v = done_in (fields_in (out-Value v))
 
 done_first : (word : List ℕ) (fs : List (Field Value)) → done_of (V.Rec (field (codes "do") (V.Text word) ∷ fs)) ≡ word
-unfolding done_in text_in fields_in
+unfolding done_in fields_in
 done_first word fs =
     ap (λ (x : Value-F Value). done_in (fields_in x)) (values.outs-Rec (field (codes "do") (V.Text word) ∷ fs)) ∙ ap text_in (values.outs-Text word)
 
 done_second : (name : Name) (x : Value) (word : List ℕ) (fs : List (Field Value)) → (length name == 2) ≡ false → done_of (V.Rec (field name x ∷ field (codes "do") (V.Text word) ∷ fs)) ≡ word
-unfolding done_in text_in fields_in
+unfolding done_in fields_in
 done_second name x word fs other =
     ap (λ (y : Value-F Value). done_in (fields_in y)) (values.outs-Rec (field name x ∷ field (codes "do") (V.Text word) ∷ fs))
     ∙ ap (λ (b : Bool). cond b (text_in (out-Value x)) (text_in (out-Value (V.Text word)))) other ∙ ap text_in (values.outs-Text word)

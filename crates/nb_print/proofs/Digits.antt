@@ -6,7 +6,7 @@ use Rattle.std.proofs.lemmas.Bool.{ltb-true}
 use Rattle.std.proofs.lemmas.Fmt.{decimal_is_IsNumeral, decimal_injective}
 use Rattle.serde_json.specs.Find.{of_integer}
 use Rattle.serde_json.specs.Written.{number_text}
-use Rattle.nb_lines_law.specs.Law.{is_short}
+use Rattle.nb_print.specs.Law.{is_short}
 
 -- the text is empty, or begins with no digit
 abbrev pub Stops : List ℕ → Type 0

@@ -13,7 +13,8 @@ use Rattle.nb_log.specs.declared.entry.Entry.TheVariants as entry
 use Rattle.nb_log.specs.Printing.{entry_value, entries_text}
 use Rattle.nb_parser.specs.Parse.{Parses}
 
--- ---- numbers of 64 bits, as all numbers of a log are
+-- ---- numbers of 64 bits
+-- Each number of a log has at most so many, by its type. Contracts see a number without its type, so it is said here.
 
 -- from -2 ^ 63 to 2 ^ 64 - 1
 abbrev pub is_short : ℤ → Bool
@@ -56,6 +57,7 @@ EntryIsSpelled e = Unit {0}
 
 -- ---- the law
 
+-- The entry's line tells it.
 pub record IsTold (e : Entry) : Type 0 where
   pub spelled : EntryIsSpelled e
   pub short : has_short_numbers (entry_value e) ≡ true

@@ -4,9 +4,9 @@ use Rattle.std.proofs.lemmas.List.{append_cancel_left}
 use Rattle.nb_value.specs.Json.{json_text}
 use Rattle.nb_log.specs.declared.entry.Entry.{Entry}
 use Rattle.nb_log.specs.Printing.{entry_value, entries_text}
-use Rattle.nb_lines_law.specs.Law.{IsTold, LinesFixLog}
-use Rattle.nb_lines_law.proofs.UniqueJson.{json_once, json_some}
-use Rattle.nb_lines_law.proofs.EntryValues.{entries_same}
+use Rattle.nb_print.specs.Law.{IsTold, LinesFixLog}
+use Rattle.nb_print.proofs.UniqueJson.{json_once, json_some}
+use Rattle.nb_print.proofs.EntryValues.{entries_same}
 
 -- the first line, and those behind it
 first_line : (e : Entry) (es : List Entry) → entries_text (e ∷ es) ≡ json_text (entry_value e) ++ 10 ∷ entries_text es

@@ -1,6 +1,0 @@
-pub mod Digits
-pub mod UniqueJson
-pub mod ValueParts
-pub mod EditObjects
-pub mod EntryValues
-pub mod LinesOnce

@@ -1,5 +1,0 @@
-use Rattle.nb_lines_law.proofs.LinesOnce.{lines_fix_log}
-use Rattle.nb_lines_law.proofs.law.law_of_lines.Goals as goal
-
-pub returns : goal.returns
-returns c = lines_fix_log
