@@ -1,1 +1,8 @@
 mod TableLemmas
+mod ScratchLemmas
+pub mod Digits
+pub mod UniqueJson
+pub mod ValueParts
+pub mod EditObjects
+pub mod EntryValues
+pub mod LinesOnce

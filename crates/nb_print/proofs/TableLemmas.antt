@@ -1,11 +1,8 @@
 -- The table, one variable after the other.
-use Rattle.std.proofs.Common.{inl, inr, ℕ, suc, ◌≡◌, ◌+◌, ◌-◌, ◌<◌, refl, sym, ◌∙◌, ap, true, false, List, [], ◌∷◌, ◌++◌, append_assoc, map, cond, arith}
-use Rattle.std.specs.List.{filter, range_with_len}
+use Rattle.std.proofs.Common.{inl, inr, ℕ, suc, ◌≡◌, ◌+◌, ◌-◌, ◌<◌, refl, sym, ◌∙◌, ap, List, ◌++◌, append_assoc, arith}
 use Rattle.std.proofs.lemmas.Bool.{cases_Bool}
-use Rattle.nb_log.specs.Printing.{lines_text}
 use Rattle.nb_history.specs.Reading.{Reading}
 use Rattle.nb_history.specs.Rules.{wanted}
-use Rattle.nb_history.specs.Print.{table_line}
 use Rattle.nb_print.specs.Table.{var_text, lines_from}
 
 first_line : (r : Reading) (v n : ℕ) → lines_from r v (suc n) ≡ var_text r v ++ lines_from r (v + 1) n

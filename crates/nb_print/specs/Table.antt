@@ -1,5 +1,5 @@
 -- The table, variable by variable.
-use Rattle.std.specs.Prelude.{ℕ, List, [], ◌∷◌, map, cond}
+use Rattle.std.specs.Prelude.{ℕ, List, [], map, cond}
 use Rattle.std.specs.List.{filter, range_with_len}
 use Rattle.nb_log.specs.Printing.{line_text, lines_text}
 use Rattle.nb_history.specs.Reading.{Reading}

@@ -1,15 +1,27 @@
 ghost use Rattle.std.specs.Prelude.{◌≡◌, ◌≤◌, ◌<◌, ◌++◌, length, IfOk, OnOk, Some};
-ghost use Rattle.nb_log.specs.Printing.{entries_text, line_text, done_value as done_of};
+ghost use Rattle.nb_log.specs.Printing.{entry_value, entries_text, line_text, done_value as done_of};
 ghost use Rattle.nb_sheet.specs.Lists.{nth};
 ghost use Rattle.nb_history.specs.Print.{table_text, printing};
 ghost use Rattle.nb_history.specs.History.{standing};
+ghost use Rattle.nb_history.specs.Log.{NothingReady};
+ghost use Rattle.nb_print.specs.Scratch.{scratch_table_text};
 ghost use Rattle.nb_print.specs.Table.{var_text};
 
 use nb_core::Core;
-use nb_log::{Log, push_done_line, push_entries, push_table_line};
+use nb_log::{Entry, Log, push_done_line, push_entries, push_table_line};
 use nb_sheet::VarRow;
 use nb_value::Bytes;
 use std::alloc::{AllocError, Global};
+use std::slice;
+
+/// The line of an entry, with its line feed. It fails only without memory. Linear in its text.
+pub fn print_entry(alloc: Global, entry: &Entry) -> Result<Bytes, AllocError>
+    ensures { IfOk result (λ text. text ≡ line_text (entry_value entry.now)) }
+{
+    let mut out = Bytes::new(alloc);
+    push_entries(alloc, &mut out, slice::from_ref(entry))?;
+    Ok(out)
+}
 
 /// The lines of a log's entries, in order. Linear in their text.
 pub fn print_log(alloc: Global, log: &Log) -> Result<Bytes, AllocError>
@@ -20,10 +32,12 @@ pub fn print_log(alloc: Global, log: &Log) -> Result<Bytes, AllocError>
     Ok(out)
 }
 
-/// The table line of each wanted variable, by number, and last the line with the number of entries.
-/// Linear in their text.
+/// The table line of each wanted variable, by number, and last the line with the number of entries. Where nothing is
+/// ready, each of these variables shows what evaluating the present definitions from scratch gives, or waits exactly
+/// where that waits. Linear in their text.
 pub fn print_table(alloc: Global, core: &Core) -> Result<Bytes, AllocError>
-    ensures { IfOk result (λ text. text ≡ table_text (standing core.now) ++ line_text (done_of (length core.now.log))) }
+    ensures table { IfOk result (λ text. text ≡ table_text (standing core.now) ++ line_text (done_of (length core.now.log))) }
+    ensures rest { NothingReady (standing core.now) → IfOk result (λ text. text ≡ scratch_table_text (standing core.now) ++ line_text (done_of (length core.now.log))) }
 {
     let mut out = Bytes::new(alloc);
     push_table(alloc, &mut out, core)?;
