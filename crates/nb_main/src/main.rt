@@ -58,6 +58,8 @@ fn words_of<R: Env + AllocGlobal>(rt: &R) -> Result<Words, AllocError> {
 #[cfg(test)]
 mod cell_tests;
 #[cfg(test)]
+mod document_tests;
+#[cfg(test)]
 mod line_tests;
 #[cfg(test)]
 mod tests;

@@ -119,10 +119,7 @@ fn write_fault<'t, E: Sink>(
     ensures writes { WritesAll (fault_text what.now place.now word.now at.now) (E.written notes.old) (E.written notes.new) result }
     ensures cause { HasCause (E.faults notes.old) (E.faults notes.new) result }
 {
-    write_pieces(
-        notes,
-        &[what, place, b": BadCell ", word, b" ", at, b"\n"],
-    )
+    write_pieces(notes, &[what, place, b": BadCell ", word, b" ", at, b"\n"])
 }
 
 /// Writes what is bad and where, and that a token of its cell isn't expected, with the digits of its place.

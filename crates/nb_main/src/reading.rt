@@ -44,11 +44,7 @@ pub fn document_of<F: Files>(
 }
 
 /// The document of the file with this name.
-fn named_document<F: Files>(
-    alloc: Global,
-    name: &Text,
-    files: &mut F,
-) -> Result<Document, Status>
+fn named_document<F: Files>(alloc: Global, name: &Text, files: &mut F) -> Result<Document, Status>
     ensures is { IfOk result (IsDocument (seen_files F.file_of F.faults files.old files.new) (Some name.now)) }
     ensures few { IfOk result (λ document. length document.builtins ≤ 65536) }
     ensures stops { IfErr result (StopsAtFile (seen_files F.file_of F.faults files.old files.new) (Some name.now)) }
@@ -60,11 +56,7 @@ fn named_document<F: Files>(
 }
 
 /// The document of the file with this name, as one of version 2.
-pub fn upgraded_file<F: Files>(
-    alloc: Global,
-    name: &Text,
-    files: &mut F,
-) -> Result<Bytes, Status>
+pub fn upgraded_file<F: Files>(alloc: Global, name: &Text, files: &mut F) -> Result<Bytes, Status>
     ensures is { IfOk result (UpgradesTo (seen_files F.file_of F.faults files.old files.new) name.now) }
     ensures stops { IfErr result (StopsAtFile (seen_files F.file_of F.faults files.old files.new) (Some name.now)) }
     ensures asks { AsksFor (Some name.now) (F.asked files.old) (F.asked files.new) }
