@@ -1,5 +1,5 @@
 -- How a call stops, and what it leaves as it was.
-use Rattle.std.proofs.Common.{◌≡◌, ℕ, List, [], Option, None, Some, inl, inr, sym, ap, ◌∙◌, subst, refl, append-nil, Result, Err, IsErrOf}
+use Rattle.std.proofs.Common.{◌≡◌, ℕ, List, [], Option, None, Some, inl, inr, sym, ap, subst, refl, append-nil, Result, Ok as Done, Err, IsErrOf, IsErrAnd}
 use Rattle.std.specs.Io.KnownBytes.{Keeps}
 use Rattle.std.proofs.lemmas.Option.{none-some, same_Some}
 use Rattle.nb_io.specs.declared.reading.ReadFail.{ReadFail}
@@ -14,9 +14,9 @@ use Rattle.nb_main.specs.declared.task.Task.TheVariants.{Run, Upgrade}
 use Rattle.nb_main.specs.declared.status.Status.{Status}
 use Rattle.nb_main.specs.declared.status.Status.TheVariants.{Ok, Memory, Usage, BadInput, ReadFault, WriteFault, FileFault, TooLong, BadDocument}
 use Rattle.nb_main.specs.Task.{task}
-use Rattle.nb_main.specs.Ends.{limit, by_read}
+use Rattle.nb_main.specs.Ends.{limit, by_read, ended}
 use Rattle.nb_main.specs.Outcome.{IsReadableDocument}
-use Rattle.nb_main.specs.Answers.{Seen, SeenFiles, Call, Answers, AcceptsFile, ReadsDocumentFile, IsDocument, StopsRun, StopsAtFile, Stops, AsksFor, StaysUnread}
+use Rattle.nb_main.specs.Answers.{Seen, SeenFiles, Call, Answers, AcceptsFile, ReadsDocumentFile, IsDocument, StopsRun, Stops, AsksFor, StaysUnread}
 
 -- ---- the file
 
@@ -84,3 +84,8 @@ stopped (BadDocument path reason) call does words stops nothing = record { does 
 pub keeps : (told : Option (List ℕ)) → Keeps told told
 keeps None = tt
 keeps (Some bytes) = refl
+
+-- how a call ended that failed with this status
+pub ended_by : (result : Result (Unit {0}) Status) (s : Status) → IsErrAnd result (λ (e : Status). e ≡ s) → ended result ≡ s
+ended_by (Done x) s fails = absurd fails
+ended_by (Err e) s fails = fails

@@ -1,5 +1,5 @@
 -- The causes of the statuses.
-use Rattle.std.proofs.Common.{◌≡◌, ◌⊎◌, ℕ, List, Option, None, Some, Bool, true, false, inl, inr, sym, ap, ◌∙◌, subst, refl}
+use Rattle.std.proofs.Common.{◌≡◌, ◌⊎◌, ℕ, List, Option, None, Some, true, inl, inr, sym, ap, ◌∙◌, subst, refl}
 use Rattle.std.specs.Prelude.{option_and_then}
 use Rattle.std.proofs.lemmas.Option.{none-some, same_Some}
 use Rattle.std.proofs.lemmas.Bool.{false≢true}
@@ -13,9 +13,9 @@ use Rattle.nb_main.specs.declared.task.Task.TheVariants.{Run, Upgrade}
 use Rattle.nb_main.specs.declared.status.Status.{Status}
 use Rattle.nb_main.specs.declared.status.Status.TheVariants.{Ok, Memory, Usage, BadInput, ReadFault, WriteFault, FileFault, TooLong, BadDocument}
 use Rattle.nb_main.specs.Task.{task, file_of, file_in, reads_input}
-use Rattle.nb_main.specs.Outcome.{IsRefusal, IsReadable, IsDocumentRefusal, IsReadableDocument}
-use Rattle.nb_main.specs.Answers.{Seen, SeenFiles, Call, Answers, IsStopped, AcceptsFile, HasNoFile, HasNoInput, RefusesFile, RefusesInput, IsNamed, ReadsDocumentFile, RunsTo, ComesTo, Stops, StopsRun, StopsAtFile}
-use Rattle.nb_main.specs.Causes.{Causes, HasReadableFile, HasReadableInput}
+use Rattle.nb_main.specs.Outcome.{IsRefusal, IsReadable, IsDocumentRefusal}
+use Rattle.nb_main.specs.Answers.{Seen, SeenFiles, Call, Answers, AcceptsFile, HasNoFile, HasNoInput, RefusesFile, RefusesInput, ComesTo, Stops, StopsRun, StopsAtFile}
+use Rattle.nb_main.specs.Causes.{Causes, HasReadableFile}
 use Rattle.nb_main.proofs.CallLemmas.{named_accepts, document_accepts}
 use Rattle.nb_main.proofs.OutcomeLemmas.{one_refusal, not_refused, one_document_refusal, not_refused_document}
 

@@ -1,6 +1,5 @@
 -- The text of a fault that is told in one of two ways.
 use Rattle.std.proofs.Common.{◌≡◌, ℕ, List, [], decimal, refl}
-use Rattle.nb_lexer.specs.declared.fault.LexError.{LexError}
 use Rattle.nb_parser.specs.declared.error.ParseError.{ParseError}
 use Rattle.nb_parser.specs.declared.error.ParseError.TheVariants as parse
 use Rattle.nb_lines.specs.declared.script.BadReason.{BadReason}

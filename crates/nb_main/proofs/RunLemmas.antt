@@ -4,9 +4,9 @@ use Rattle.nb_value.specs.declared.value.Value.{Value}
 use Rattle.nb_value.specs.declared.pairs.Field.{Field}
 use Rattle.nb_log.specs.declared.event.Event.{Event}
 use Rattle.nb_history.specs.Log.{IsLegal, NothingReady}
-use Rattle.nb_history.specs.Serial.{IsSerial, least_var}
+use Rattle.nb_history.specs.Serial.{least_var}
 use Rattle.nb_history.specs.Rules.{ready}
-use Rattle.nb_history.specs.History.{History, standing, IsClosedHistory}
+use Rattle.nb_history.specs.History.{History, standing}
 use Rattle.nb_history.specs.Headline.{IsHistoryOf}
 use Rattle.nb_history.proofs.HistoryThere.{history_alone}
 use Rattle.nb_history.proofs.Shapes.{sound_reading}

@@ -1,5 +1,5 @@
 -- When each status comes, status by status. All of it follows from `Answers`.
-use Rattle.std.specs.Prelude.{◌≡◌, ◌⊎◌, ◌<◌, ℕ, true, List, length, Option, Some, None}
+use Rattle.std.specs.Prelude.{◌≡◌, ◌⊎◌, ℕ, true, List, Some, None}
 use Rattle.nb_io.specs.Causes.{Rose}
 use Rattle.nb_io.specs.Named.{TellsFile}
 use Rattle.nb_io.specs.Streams.{Tells}
@@ -9,7 +9,6 @@ use Rattle.nb_main.specs.declared.task.Task.{Task}
 use Rattle.nb_main.specs.declared.status.Status.{Status}
 use Rattle.nb_main.specs.declared.status.Status.TheVariants.{Ok, Memory, Usage, BadInput, ReadFault, WriteFault, FileFault, TooLong, BadDocument}
 use Rattle.nb_main.specs.Task.{task, file_of, file_in, reads_input}
-use Rattle.nb_main.specs.Ends.{limit}
 use Rattle.nb_main.specs.Outcome.{IsRefusal, IsReadable, IsDocumentRefusal, IsReadableDocument}
 use Rattle.nb_main.specs.Answers.{Call}
 

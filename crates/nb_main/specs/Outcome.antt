@@ -1,5 +1,5 @@
 -- What the bytes of a document and of an input come to.
-use Rattle.std.specs.Prelude.{◌≡◌, ◌<◌, ◌≤◌, ℕ, List, [], ◌∷◌, ◌++◌, length, map, None}
+use Rattle.std.specs.Prelude.{◌≡◌, ◌<◌, ◌≤◌, ℕ, List, [], ◌++◌, length, map, None}
 use Rattle.nb_lines.specs.Lines.{first_bad, scripts, script_lines, IsBad}
 use Rattle.nb_log.specs.declared.event.Event.{Event}
 use Rattle.nb_log.specs.declared.entry.Entry.{Entry}

@@ -1,6 +1,5 @@
-use Rattle.nb_main.specs.Ends.{ended}
 use Rattle.nb_main.specs.Answers.{Call, seen, seen_files}
-use Rattle.nb_main.proofs.CallLemmas.{stopped, keeps}
+use Rattle.nb_main.proofs.CallLemmas.{ended_by, stopped, keeps}
 use Rattle.nb_main.proofs.call.perform.Goals as goal
 
 pub returns-in_err-text-clause-answer : goal.returns-in_err-text-clause-answer
@@ -11,4 +10,5 @@ returns-in_err-text-clause-answer g c =
       files = seen_files g.F.Files.file_of g.F.Files.faults c.args.files.now c.text_of.new.files;
       out = seen g.K.Sink.written g.K.Sink.faults c.args.out.now c.args.out.now;
     } in
-    rw c.from_residual-in_err-text.ensures (stopped c.in_err-text.field-0 call c.in_ok-task.task c.in_ok-task.ensures c.in_err-text.ensures.stops (keeps call.out.old))
+    rw (ended_by c.from_residual-in_err-text.result c.in_err-text.field-0.0 c.from_residual-in_err-text.ensures.1)
+    (stopped c.in_err-text.field-0.0 call c.in_ok-task.task c.in_ok-task.ensures c.in_err-text.ensures.stops (keeps call.out.old))

@@ -1,4 +1,4 @@
-use Rattle.std.proofs.Common.{◌∙◌, sym}
+use Rattle.std.proofs.Common.{◌∙◌}
 use Rattle.nb_main.proofs.NoteLemmas.{fault_told}
 use Rattle.nb_main.proofs.notes.tell_bad_cell.Goals as goal
 

@@ -9,4 +9,4 @@ returns-in-BadCell-clause-writes g c =
 pub returns-in_default : goal.returns-in_default
 returns-in_default g c =
     rw (line_told c.args.line c.args.reason.now c.in_default.not-BadCell)
-    (rw (c.as_bytes-line.ensures.value ∙ c.format.ensures.text, c.reason_word.ensures, c.reason_key.ensures) at c.write_reason.ensures)
+    (rw (c.as_bytes-line.ensures.value ∙ c.format.ensures.text, c.reason_word-word.ensures, c.reason_key.ensures) at c.write_reason.ensures)
