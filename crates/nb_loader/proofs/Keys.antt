@@ -80,7 +80,7 @@ module _ (loaders : List Loader) (r : Reading) (t : ℕ) (k : Ticket) (there : n
 
 -- ---- its words
 
-pub argv_words : (all : List DocumentLoader) (key : Name) (argv : List Name) → All (λ (l : DocumentLoader). 0 < length l.argv) all → argv_of (as_loaders all) key ≡ Some argv → 0 < length argv
+argv_words : (all : List DocumentLoader) (key : Name) (argv : List Name) → All (λ (l : DocumentLoader). 0 < length l.argv) all → argv_of (as_loaders all) key ≡ Some argv → 0 < length argv
 argv_words [] key argv words h = absurd (none-some argv h)
 argv_words (l ∷ all) key argv words h =
     elim (cases_Bool (bytes_eq l.key key)) [
@@ -91,3 +91,10 @@ argv_words (l ∷ all) key argv words h =
           omega (arith, first, ap (λ (ws : List Name). length ws) same)
       | inr not_here ↦ argv_words all key argv (λ i d less. words (suc i) d (omega (arith, less))) (rw not_here at h)
     ]
+
+pub ticket_words : (all : List DocumentLoader) (r : Reading) (t : ℕ) (argv : List Name) → All (λ (l : DocumentLoader). 0 < length l.argv) all → argv_for (as_loaders all) r t ≡ Some argv → 0 < length argv
+ticket_words all r t argv words h = go (nth r.tickets t) h
+  where
+    go : (o : Option Ticket) → option_then o (λ (k : Ticket). argv_of (as_loaders all) k.key) ≡ Some argv → 0 < length argv
+    go None k = absurd (none-some argv k)
+    go (Some k) j = argv_words all k.key argv words j

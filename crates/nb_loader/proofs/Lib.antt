@@ -1,2 +1,3 @@
 pub mod Keys
+pub mod Spawns
 pub mod Tickets

@@ -13,7 +13,7 @@ use Rattle.nb_loader.proofs.ticket.loader_ticket.Goals as goal
 pub returns-in_default-clause-ticket : goal.returns-in_default-clause-ticket
 returns-in_default-clause-ticket c =
     sym (none_live (keys_of (as_loaders c.args.loaders.now)) (standing c.args.core.now) c.loop-at_least.at_least c.loop-at_least.invariant
-    (?))
+    (sym c.in_default.ensures.number))
 
 pub returns-in-Some-argv_of-clause-ticket : goal.returns-in-Some-argv_of-clause-ticket
 returns-in-Some-argv_of-clause-ticket c =
@@ -56,7 +56,7 @@ loop-at_least-preserved c =
     let there = ticket_there keys r c.loop-at_least.at_least c.loop-at_least.invariant c.in-Some.ticket found in
     none_below_next keys r c.loop-at_least.at_least c.loop-at_least.invariant c.in-Some.ticket found
     (keyed_none (as_loaders c.args.loaders.now) r c.in-Some.ticket there.0 there.1
-    (ap (argv_of_key (as_loaders c.args.loaders.now)) (sym c.in-Some.ensures.key) ∙ (?)))
+    (ap (argv_of_key (as_loaders c.args.loaders.now)) (sym c.in-Some.ensures.key) ∙ sym c.in_default-argv_of.ensures))
 
 pub returns-clause-ticket : goal.returns-clause-ticket
 returns-clause-ticket c =
