@@ -25,8 +25,8 @@ abbrev pub as_loaders : List DocumentLoader → List Loader
 as_loaders loaders = map (λ (l : DocumentLoader). record { key = l.key; argv = l.argv }) loaders
 
 -- each has a word that names its program
-abbrev pub HaveWords : List DocumentLoader → Type 0
-HaveWords loaders = All (λ (l : DocumentLoader). 0 < length l.argv) loaders
+abbrev pub HasWords : List DocumentLoader → Type 0
+HasWords loaders = All (λ (l : DocumentLoader). 0 < length l.argv) loaders
 
 -- the ticket is the next that is loaded: where nothing is ready, and neither is the notebook disposed of nor the log full,
 -- the least live one whose key has a loader

@@ -1,5 +1,5 @@
 ghost use Rattle.std.specs.Prelude.{◌≡◌, ◌≤◌, IfOk};
-ghost use Rattle.nb_loader.specs.Loads.{as_loaders, HaveWords, Steps, SpawnHasCause};
+ghost use Rattle.nb_loader.specs.Loads.{as_loaders, HasWords, Steps, SpawnHasCause};
 ghost use Rattle.nb_loader.specs.declared.step.LoadStep.TheVariants.{Nothing};
 
 use crate::answer::answer_of;
@@ -22,7 +22,7 @@ pub fn load_one<P: Spawner>(
     loaders: &Loaders,
     programs: &mut P,
 ) -> Result<LoadStep, AllocError>
-    requires { HaveWords loaders.now }
+    requires { HasWords loaders.now }
     ensures steps { Steps (as_loaders loaders.now) core.old core.new (P.runs programs.old) (P.runs programs.new) result }
     ensures nothing { IfOk result (λ step. step ≡ Nothing → programs.new ≡ programs.old) }
     ensures later { P.faults programs.old ≤ P.faults programs.new }
