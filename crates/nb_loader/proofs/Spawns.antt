@@ -1,5 +1,5 @@
 -- Where the failure of a run that didn't start comes into a log.
-use Rattle.std.proofs.Common.{ℕ, ◌≡◌, ◌+◌, ◌<◌, refl, sym, ◌∙◌, ap, List, ◌∷◌, ◌++◌, length, arith, codes}
+use Rattle.std.proofs.Common.{ℕ, ◌≡◌, ◌+◌, sym, ◌∙◌, ap, List, ◌∷◌, length, arith, codes}
 use Rattle.std.proofs.lemmas.List.{append_cancel_left, length-append}
 use Rattle.nb_value.specs.declared.outcome.Answer.{Answer}
 use Rattle.nb_value.specs.declared.outcome.Answer.TheVariants.{Failure}

@@ -1,4 +1,4 @@
-use Rattle.std.proofs.Common.{◌≡◌, ◌<◌, ◌≤◌, length, arith, sym, ◌∙◌, ap, List}
+use Rattle.std.proofs.Common.{sym, ◌∙◌, ap, List}
 use Rattle.nb_history.specs.Loaders.{argv_of as argv_of_key}
 use Rattle.nb_doc.specs.declared.document.Loader.{Loader as DocumentLoader}
 use Rattle.nb_loader.specs.Loads.{as_loaders}

@@ -1,12 +1,11 @@
-use Rattle.std.proofs.Common.{◌≡◌, ◌<◌, ◌≤◌, ◌+◌, ◌∙◌, ℕ, sym, ap, arith, length, List, Some, None, false, true}
-use Rattle.nb_sheet.specs.Lists.{Name}
+use Rattle.std.proofs.Common.{◌≡◌, ◌<◌, ◌≤◌, ◌∙◌, sym, ap, arith, length, List, Some}
 use Rattle.nb_log.specs.declared.entry.Entry.{Entry}
 use Rattle.nb_history.specs.History.{standing}
 use Rattle.nb_history.specs.Loaders.{keys_of, argv_of as argv_of_key}
 use Rattle.nb_history.proofs.LiveTickets.{few_tickets}
 use Rattle.nb_core.specs.Core.{live_from, key_of}
 use Rattle.nb_loader.specs.Loads.{as_loaders}
-use Rattle.nb_loader.proofs.Tickets.{keyed, within, later, ticket_there, first_found, none_live, none_left, none_below_next}
+use Rattle.nb_loader.proofs.Tickets.{within, later, ticket_there, first_found, none_live, none_left, none_below_next}
 use Rattle.nb_loader.proofs.Keys.{ticket_argv, keyed_there, keyed_none}
 use Rattle.nb_loader.proofs.ticket.loader_ticket.Goals as goal
 
