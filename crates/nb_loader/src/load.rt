@@ -11,11 +11,16 @@ use nb_io::Spawner;
 use std::alloc::{AllocError, Global};
 use std::mem::drop;
 
-/// Runs the program of the least live ticket whose key has a loader, once, and puts its answer into the log. Its output may
-/// have 65,536 bytes. `Nothing` comes where no live ticket's key has a loader, or where no answer of a loader may come
-/// now, as while a variable is ready; then no program is run.
+/// Runs the program of the least live ticket whose key has a loader, once, and puts its answer into the log. Of several
+/// loaders of the key it is the first. `Nothing` comes exactly where no live ticket's key has a loader, or no answer of a
+/// loader may come now, as while a variable is ready; then no program is run, and nothing changes.
 ///
-/// It fails only without memory. Then the core is as it was, but the program may have run.
+/// The answer is the value that the output is the JSON of, within the limits of values. It is the failure `spawn` where the
+/// program didn't start, `status 3` where it ended with 3, and `output` where it ended with 0 and its output is no such
+/// value, or where that has more than 65,536 bytes.
+///
+/// It fails only without memory. Then the core is as it was, but the program may have run. It costs, for each live ticket up
+/// to that one, a look at each ticket and at each loader, and time and memory linear in the output.
 pub fn load_one<P: Spawner>(
     alloc: Global,
     core: &mut Core,
