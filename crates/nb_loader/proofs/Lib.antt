@@ -1,0 +1,4 @@
+pub mod Follows
+pub mod Keys
+pub mod Spawns
+pub mod Tickets
