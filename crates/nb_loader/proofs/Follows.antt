@@ -35,11 +35,11 @@ use Rattle.nb_loader.specs.Loads.{Loads, NothingToLoad}
 
 -- ---- logs and runs that grow
 
-answers_append : (es fs : List Entry) → answers_in (es ++ fs) ≡ answers_in es ++ answers_in fs
+pub answers_append : (es fs : List Entry) → answers_in (es ++ fs) ≡ answers_in es ++ answers_in fs
 answers_append [] fs = refl
 answers_append (e ∷ es) fs = ap (λ (given : List Answer). answer_in e ++ given) (answers_append es fs) ∙ sym (append_assoc (answer_in e) (answers_in es) (answers_in fs))
 
-runs_append : (loaders : List Loader) (r : Reading) (es fs : List Entry) (runs more : List ChildRun) → AreRuns loaders r es runs → AreRuns loaders (read_from r es) fs more → AreRuns loaders r (es ++ fs) (runs ++ more)
+pub runs_append : (loaders : List Loader) (r : Reading) (es fs : List Entry) (runs more : List ChildRun) → AreRuns loaders r es runs → AreRuns loaders (read_from r es) fs more → AreRuns loaders r (es ++ fs) (runs ++ more)
 runs_append loaders r [] fs [] more h k = k
 runs_append loaders r [] fs (run ∷ runs) more h k = absurd h
 runs_append loaders r (Loaded t a ∷ es) fs [] more h k = absurd h
@@ -54,7 +54,7 @@ grows_on (Some xs) b c runs more h k =
     later ∙ ap (λ (all : List ChildRun). Some all) (append_assoc xs runs more)
 
 -- entries of the serial history that use no answer have none
-no_answers : (keys : List Name) (r : Reading) (left rest : List (ℕ × Event)) (es : List Entry) → SerialFrom keys r (to_come left []) es (to_come rest []) → answers_in es ≡ []
+pub no_answers : (keys : List Name) (r : Reading) (left rest : List (ℕ × Event)) (es : List Entry) → SerialFrom keys r (to_come left []) es (to_come rest []) → answers_in es ≡ []
 no_answers keys r left rest es h = sym (append-nil (answers_in es)) ∙ sym (serial_answers keys r (to_come left []) (to_come rest []) es h)
 
 -- ---- what a log has reached

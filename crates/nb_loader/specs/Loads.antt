@@ -1,5 +1,5 @@
 -- How a log goes on by the run of a loader's program.
-use Rattle.std.specs.Prelude.{ℕ, ◌+◌, ◌≡◌, ◌<◌, All, List, ◌∷◌, ◌++◌, codes, length, map, Option, Some, None, Result}
+use Rattle.std.specs.Prelude.{ℕ, ◌+◌, ◌≡◌, List, ◌∷◌, ◌++◌, codes, length, map, Option, Some, None, Result}
 use Rattle.std.specs.declared.result.Result.TheVariants.{Ok, Err}
 use Rattle.nb_value.specs.declared.outcome.Answer.{Answer}
 use Rattle.nb_value.specs.declared.outcome.Answer.TheVariants.{Failure}
@@ -23,10 +23,6 @@ use Rattle.nb_loader.specs.Runs.{MayRunOnce}
 -- the loaders of a document, as histories have them
 abbrev pub as_loaders : List DocumentLoader → List Loader
 as_loaders loaders = map (λ (l : DocumentLoader). record { key = l.key; argv = l.argv }) loaders
-
--- each has a word that names its program
-abbrev pub HasWords : List DocumentLoader → Type 0
-HasWords loaders = All (λ (l : DocumentLoader). 0 < length l.argv) loaders
 
 -- the ticket is the next that is loaded: where nothing is ready, and neither is the notebook disposed of nor the log full,
 -- the least live one whose key has a loader

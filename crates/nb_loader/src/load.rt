@@ -1,5 +1,6 @@
 ghost use Rattle.std.specs.Prelude.{◌≡◌, ◌≤◌, IfOk};
-ghost use Rattle.nb_loader.specs.Loads.{as_loaders, HasWords, Steps, SpawnHasCause};
+ghost use Rattle.nb_doc.specs.Loading.{HasWords};
+ghost use Rattle.nb_loader.specs.Loads.{as_loaders, Steps, SpawnHasCause};
 ghost use Rattle.nb_loader.specs.declared.step.LoadStep.TheVariants.{Nothing};
 
 use crate::answer::answer_of;

@@ -1,6 +1,6 @@
 //! Loaders, the ends of their programs, and cells.
 ghost use Rattle.std.specs.Prelude.{◌<◌, length, IfOk};
-ghost use Rattle.nb_loader.specs.Loads.{HasWords};
+ghost use Rattle.nb_doc.specs.Loading.{HasWords};
 
 use nb_core::Core;
 use nb_doc::{Loader, Loaders};

@@ -1,5 +1,5 @@
 //! What programs of loaders answer, and when one is run.
-ghost use Rattle.nb_loader.specs.Loads.{HasWords};
+ghost use Rattle.nb_doc.specs.Loading.{HasWords};
 
 use crate::fixtures::{End, add, loaders, programs};
 use nb_core::{Core, settle};
