@@ -8,3 +8,6 @@ pub mod LoaderLemmas
 pub mod UpgradeLemmas
 pub mod Faultless
 pub mod PartLemmas
+pub mod Order
+pub mod Floats
+pub mod UpgradedFits

@@ -9,7 +9,6 @@ mod contents;
 mod count;
 mod document;
 mod fail;
-mod floats;
 mod form;
 mod item;
 mod lines;

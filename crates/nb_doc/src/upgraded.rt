@@ -1,6 +1,7 @@
 //! Documents in version 2.
-ghost use Rattle.std.specs.Prelude.{◌≡◌, ℕ, List, Some, None, Err, IfOk, IfErr, OnOk, option_map, string_bytes};
+ghost use Rattle.std.specs.Prelude.{◌≡◌, ℕ, List, false, Some, None, Err, IfOk, IfErr, OnOk, option_map, string_bytes};
 ghost use Rattle.serde_json.specs.View.{view, items_view};
+ghost use Rattle.serde_json.specs.Written.{has_float};
 ghost use Rattle.nb_doc.specs.declared.form.Field.TheVariants as field;
 ghost use Rattle.nb_doc.specs.declared.reason.DocReason.{DocReason as Reason};
 ghost use Rattle.nb_doc.specs.declared.reason.DocFail.TheVariants.{Bad};
@@ -9,7 +10,6 @@ ghost use Rattle.nb_doc.specs.Documents.{first_fault, UnlessMemory};
 ghost use Rattle.nb_doc.specs.Upgraded.{with_field, number_at as number_at_data, array_at as array_at_data, module_name, by_name, items_by_name, with_items as with_items_data, named_module as named_module_data, named_modules as named_modules_data, with_modules as with_modules_data, upgraded_by, json_line as json_line_of, upgraded, UpgradesDocument};
 
 use crate::arrays::keep;
-use crate::floats::has_float;
 use crate::form::Field;
 use crate::read::{parts_of_tree, tree_of};
 use crate::reason::DocFail;
@@ -43,14 +43,11 @@ fn upgraded_bytes(alloc: Global, bytes: &[u8]) -> Result<Bytes, DocFail>
     Ok(json_line(alloc, &tree)?)
 }
 
-/// Compact JSON and a line feed.
+/// Compact JSON and a line feed, of what has no number that isn't whole.
 fn json_line(alloc: Global, tree: &Tree) -> Result<Bytes, AllocError>
+    requires { has_float (view tree.now) ≡ false }
     ensures { IfOk result (λ b. b ≡ json_line_of (view tree.now)) }
 {
-    // No document has a number that isn't whole.
-    if has_float(tree) {
-        return Err(AllocError);
-    }
     let mut bytes = tree.to_vec(alloc)?;
     bytes.push(b'\n')?;
     Ok(Bytes::from_vec(bytes))
