@@ -16,7 +16,7 @@ use Rattle.nb_main.specs.declared.status.Status.TheVariants.{Ok, Memory, Usage, 
 use Rattle.nb_main.specs.Task.{task}
 use Rattle.nb_main.specs.Ends.{limit, by_read, ended}
 use Rattle.nb_main.specs.Outcome.{IsReadableDocument}
-use Rattle.nb_main.specs.Answers.{Seen, SeenFiles, Call, Answers, AcceptsFile, ReadsDocumentFile, IsDocument, StopsRun, Stops, AsksFor, StaysUnread}
+use Rattle.nb_main.specs.Answers.{Seen, SeenFiles, Call, Answers, AcceptsFile, ReadsDocumentFile, IsDocument, StopsRun, Stops, AsksFor, StaysUnread, RunsNothingBy}
 
 -- ---- the file
 
@@ -42,7 +42,7 @@ stops_reading files input file NoMemory accepted result is reads cause = tt
 
 -- ---- what stays
 
-grows_by_nothing : {X : Type 0} (told : Option (List X)) → Grows told told []
+pub grows_by_nothing : {X : Type 0} (told : Option (List X)) → Grows told told []
 grows_by_nothing None = tt
 grows_by_nothing (Some xs) = ap Some (sym (append-nil xs))
 
@@ -70,16 +70,16 @@ never_done files input (Run file) stops = stops
 never_done files input (Upgrade name) stops = stops
 
 -- where nothing was written, the status says why the task came to nothing
-pub stopped : (s : Status) (call : Call) (does : Task) → task call.words ≡ Some does → Stops call.files call.input does s → Keeps call.out.old call.out.new → Answers s call
-stopped Ok call does words stops nothing = absurd (never_done call.files call.input does stops)
-stopped Memory call does words stops nothing = nothing
-stopped Usage call does words stops nothing = absurd (never_usage call.files call.input does stops)
-stopped WriteFault call does words stops nothing = absurd (never_cut call.files call.input does stops)
-stopped (BadInput line reason) call does words stops nothing = record { does = does; words = words; stops = stops; nothing = nothing }
-stopped ReadFault call does words stops nothing = record { does = does; words = words; stops = stops; nothing = nothing }
-stopped FileFault call does words stops nothing = record { does = does; words = words; stops = stops; nothing = nothing }
-stopped (TooLong most) call does words stops nothing = record { does = does; words = words; stops = stops; nothing = nothing }
-stopped (BadDocument path reason) call does words stops nothing = record { does = does; words = words; stops = stops; nothing = nothing }
+pub stopped : (s : Status) (call : Call) (does : Task) → task call.words ≡ Some does → Stops call.files call.input does s → RunsNothingBy s call.programs → Keeps call.out.old call.out.new → Answers s call
+stopped Ok call does words stops unrun nothing = absurd (never_done call.files call.input does stops)
+stopped Memory call does words stops unrun nothing = nothing
+stopped Usage call does words stops unrun nothing = absurd (never_usage call.files call.input does stops)
+stopped WriteFault call does words stops unrun nothing = absurd (never_cut call.files call.input does stops)
+stopped (BadInput line reason) call does words stops unrun nothing = record { does = does; words = words; stops = stops; unrun = unrun; nothing = nothing }
+stopped ReadFault call does words stops unrun nothing = record { does = does; words = words; stops = stops; unrun = unrun; nothing = nothing }
+stopped FileFault call does words stops unrun nothing = record { does = does; words = words; stops = stops; unrun = unrun; nothing = nothing }
+stopped (TooLong most) call does words stops unrun nothing = record { does = does; words = words; stops = stops; unrun = unrun; nothing = nothing }
+stopped (BadDocument path reason) call does words stops unrun nothing = record { does = does; words = words; stops = stops; unrun = unrun; nothing = nothing }
 
 pub keeps : (told : Option (List ℕ)) → Keeps told told
 keeps None = tt

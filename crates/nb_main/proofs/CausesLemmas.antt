@@ -14,7 +14,7 @@ use Rattle.nb_main.specs.declared.status.Status.{Status}
 use Rattle.nb_main.specs.declared.status.Status.TheVariants.{Ok, Memory, Usage, BadInput, ReadFault, WriteFault, FileFault, TooLong, BadDocument}
 use Rattle.nb_main.specs.Task.{task, file_of, file_in, reads_input}
 use Rattle.nb_main.specs.Outcome.{IsRefusal, IsReadable, IsDocumentRefusal}
-use Rattle.nb_main.specs.Answers.{Seen, SeenFiles, Call, Answers, AcceptsFile, HasNoFile, HasNoInput, RefusesFile, RefusesInput, ComesTo, Stops, StopsRun, StopsAtFile}
+use Rattle.nb_main.specs.Answers.{Seen, SeenFiles, SeenRuns, Call, Answers, AcceptsFile, HasNoFile, HasNoInput, RefusesFile, RefusesInput, ComesTo, Stops, StopsRun, StopsAtFile}
 use Rattle.nb_main.specs.Causes.{Causes, HasReadableFile}
 use Rattle.nb_main.proofs.CallLemmas.{named_accepts, document_accepts}
 use Rattle.nb_main.proofs.OutcomeLemmas.{one_refusal, not_refused, one_document_refusal, not_refused_document}
@@ -37,15 +37,15 @@ not_readable : (call : Call) (does : Task) (s : Status) → HasReadableFile call
 not_readable call does s (inl none) r = none-some r.name (sym none ∙ r.named)
 not_readable call does s (inr there) r = not_refused_document there.1 s there.4 (refusal_of call.files (file_of does) s there.0 there.1 r there.2 there.3)
 
-accepts : (files : SeenFiles) (input : Seen) (does : Task) (text : List ℕ) → ComesTo files input does text → AcceptsFile files (file_of does)
-accepts files input (Run file) text c = document_accepts files file c.document c.named
-accepts files input (Upgrade name) text c = named_accepts files name c.bytes c.reads
+accepts : (files : SeenFiles) (input : Seen) (programs : SeenRuns) (does : Task) (text : List ℕ) → ComesTo files input programs does text → AcceptsFile files (file_of does)
+accepts files input programs (Run file) text c = document_accepts files file c.document c.named
+accepts files input programs (Upgrade name) text c = named_accepts files name c.0.bytes c.0.reads
 
 -- ---- the input
 
-reads_readable : (files : SeenFiles) (input : Seen) (does : Task) (text bytes : List ℕ) → ComesTo files input does text → reads_input does ≡ true → Tells input.old bytes → IsReadable bytes
-reads_readable files input (Run file) text bytes c reads tells = subst IsReadable (c.read bytes tells) c.readable
-reads_readable files input (Upgrade name) text bytes c reads tells = absurd (false≢true reads)
+reads_readable : (files : SeenFiles) (input : Seen) (programs : SeenRuns) (does : Task) (text bytes : List ℕ) → ComesTo files input programs does text → reads_input does ≡ true → Tells input.old bytes → IsReadable bytes
+reads_readable files input programs (Run file) text bytes c reads tells = subst IsReadable (c.read bytes tells) c.readable
+reads_readable files input programs (Upgrade name) text bytes c reads tells = absurd (false≢true reads)
 
 -- ---- by how a call ended
 
@@ -127,7 +127,7 @@ finished s rose (inl ok) unrisen = inl ok
 finished s rose (inr fault) unrisen = absurd (unrisen fault.1)
 
 -- what the task comes to was written, or a front of it
-of_text : (s : Status) (call : Call) (does : Task) (text : List ℕ) → task call.words ≡ Some does → ComesTo call.files call.input does text → (s ≡ Ok) ⊎ ((s ≡ WriteFault) × Rose call.out.faults_old call.out.faults_new)
+of_text : (s : Status) (call : Call) (does : Task) (text : List ℕ) → task call.words ≡ Some does → ComesTo call.files call.input call.programs does text → (s ≡ Ok) ⊎ ((s ≡ WriteFault) × Rose call.out.faults_old call.out.faults_new)
     → (s ≡ Usage → ⊥) → (s ≡ FileFault → ⊥) → (s ≡ ReadFault → ⊥) → ((l : ℕ) (r : BadReason) → s ≡ BadInput l r → ⊥) → ((n : ℕ) → s ≡ TooLong n → ⊥) → ((p : List ℕ) (r : DocReason) → s ≡ BadDocument p r → ⊥)
     → (s ≡ WriteFault → Rose call.out.faults_old call.out.faults_new) → Causes s call
 of_text s call does text words comes how no_usage no_file no_read no_line no_length no_document rose = record {
@@ -138,10 +138,10 @@ of_text s call does text words comes how no_usage no_file no_read no_line no_len
   write_fault = rose;
   bad_document = λ path reason name bytes named tells e. absurd (no_document path reason e);
   document_refusal_comes = λ reason name bytes named tells is.
-      absurd (not_refused_document bytes reason (accepts call.files call.input does text comes name bytes (sym (file_there call.words does words) ∙ named) tells) is);
+      absurd (not_refused_document bytes reason (accepts call.files call.input call.programs does text comes name bytes (sym (file_there call.words does words) ∙ named) tells) is);
   bad_input = λ line reason bytes tells e. absurd (no_line line reason e);
   refusal_comes = λ reason other bytes other_words reads readable tells is. absurd (not_refused bytes reason
-      (reads_readable call.files call.input does text bytes comes (ap reads_input (sym (one_task call.words does other words other_words)) ∙ reads) tells) is);
+      (reads_readable call.files call.input call.programs does text bytes comes (ap reads_input (sym (one_task call.words does other words other_words)) ∙ reads) tells) is);
   too_long = λ most other other_words e. absurd (no_length most e);
   complete = λ other other_words there input a b c. finished s (Rose call.out.faults_old call.out.faults_new) how c;
 }

@@ -1,6 +1,7 @@
 -- What each status of the program says.
 use Rattle.std.specs.Prelude.{◌≡◌, ◌⊎◌, ⊤, ℕ, List, [], ◌∷◌, Option, Some, None, IsSome}
 use Rattle.std.specs.Io.KnownBytes.{Keeps, Appends, IsAtEnd}
+use Rattle.nb_io.specs.declared.spawner.ChildRun.{ChildRun}
 use Rattle.nb_io.specs.Causes.{Rose}
 use Rattle.nb_io.specs.Named.{TellsFile}
 use Rattle.nb_io.specs.Runs.{Grows}
@@ -35,11 +36,20 @@ pub record SeenFiles : Type 0 where
 abbrev pub seen_files : {X : Type 0} → (X → List ℕ → Option (Option (List ℕ))) → (X → ℕ) → X → X → SeenFiles
 seen_files told faults old new = record { told = told old; faults_old = faults old; faults_new = faults new }
 
+-- The runs of programs that the object told before a call and after it.
+pub record SeenRuns : Type 0 where
+  pub old : Option (List ChildRun)
+  pub new : Option (List ChildRun)
+
+abbrev pub seen_runs : {X : Type 0} → (X → Option (List ChildRun)) → X → X → SeenRuns
+seen_runs told old new = record { old = told old; new = told new }
+
 -- All that a call was given, and what it left.
 pub record Call : Type 0 where
   pub words : List (List ℕ)
   pub input : Seen
   pub files : SeenFiles
+  pub programs : SeenRuns
   pub out : Seen
 
 -- ---- what was read
@@ -74,15 +84,20 @@ AcceptsFile files file = (name bytes : List ℕ) → file ≡ Some name → Tell
 
 -- ---- what a task comes to
 
--- The text is the printing of the history of the document's lines and the input's, which was read to its end.
-pub record RunsTo (files : SeenFiles) (input : Seen) (file : Option (List ℕ)) (text : List ℕ) : Type 0 where
+-- no program was run
+abbrev pub RunsNothing : SeenRuns → Type 0
+RunsNothing programs = programs.new ≡ programs.old
+
+-- The text is the printing of the history of the document's lines and the input's, which was read to its end, with the
+-- document's loaders and the runs that were made.
+pub record RunsTo (files : SeenFiles) (input : Seen) (programs : SeenRuns) (file : Option (List ℕ)) (text : List ℕ) : Type 0 where
   pub document : Document
   pub named : IsDocument files file document
   pub bytes : List ℕ
   pub read : Agrees input.old bytes
   pub readable : IsReadable bytes
   pub at_end : IsAtEnd input.new
-  pub outcome : IsOutcome document bytes text
+  pub outcome : IsOutcome document bytes programs.old programs.new text
 
 -- The text is the file's document in version 2.
 pub record UpgradesTo (files : SeenFiles) (name text : List ℕ) : Type 0 where
@@ -90,9 +105,9 @@ pub record UpgradesTo (files : SeenFiles) (name text : List ℕ) : Type 0 where
   pub reads : ReadsDocumentFile files name bytes
   pub is : upgraded bytes ≡ Some text
 
-abbrev pub ComesTo : SeenFiles → Seen → Task → List ℕ → Type 0
-ComesTo files input (Run file) text = RunsTo files input file text
-ComesTo files input (Upgrade name) text = UpgradesTo files name text
+abbrev pub ComesTo : SeenFiles → Seen → SeenRuns → Task → List ℕ → Type 0
+ComesTo files input programs (Run file) text = RunsTo files input programs file text
+ComesTo files input programs (Upgrade name) text = UpgradesTo files name text × RunsNothing programs
 
 -- ---- why a task comes to nothing
 
@@ -140,11 +155,17 @@ abbrev pub Stops : SeenFiles → Seen → Task → Status → Type 0
 Stops files input (Run file) status = StopsRun files input file status
 Stops files input (Upgrade name) status = StopsAtFile files (Some name) status
 
+-- where memory didn't run out, no program was run
+abbrev pub RunsNothingBy : Status → SeenRuns → Type 0
+RunsNothingBy Memory programs = ⊤
+RunsNothingBy status programs = RunsNothing programs
+
 -- ---- what a call's status says
 
 -- The words are no command.
 pub record IsNoCommand (call : Call) : Type 0 where
   pub words : task call.words ≡ None
+  pub unrun : RunsNothing call.programs
   pub nothing : Keeps call.out.old call.out.new
 
 -- The task came to nothing.
@@ -152,6 +173,7 @@ pub record IsStopped (call : Call) (status : Status) : Type 0 where
   pub does : Task
   pub words : task call.words ≡ Some does
   pub stops : Stops call.files call.input does status
+  pub unrun : RunsNothing call.programs
   pub nothing : Keeps call.out.old call.out.new
 
 -- All that the task comes to was written.
@@ -159,7 +181,7 @@ pub record IsDone (call : Call) : Type 0 where
   pub does : Task
   pub words : task call.words ≡ Some does
   pub text : List ℕ
-  pub outcome : ComesTo call.files call.input does text
+  pub outcome : ComesTo call.files call.input call.programs does text
   pub written : Appends call.out.old call.out.new text
 
 -- A write failed: a front of what the task comes to was written.
@@ -168,7 +190,7 @@ pub record IsCutOff (call : Call) : Type 0 where
   pub words : task call.words ≡ Some does
   pub rose : Rose call.out.faults_old call.out.faults_new
   pub text : List ℕ
-  pub outcome : ComesTo call.files call.input does text
+  pub outcome : ComesTo call.files call.input call.programs does text
   pub front : AppendsFront call.out.old call.out.new text
 
 -- What a call's status says. Where memory ran out nothing was written.

@@ -1,7 +1,7 @@
 pub mod Task
 pub mod Ends
+pub mod Run
 pub mod Outcome
 pub mod Answers
 pub mod Causes
 pub mod Notes
-pub mod Run

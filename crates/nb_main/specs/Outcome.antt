@@ -1,12 +1,14 @@
 -- What the bytes of a document and of an input come to.
-use Rattle.std.specs.Prelude.{◌≡◌, ◌<◌, ◌≤◌, ℕ, List, [], ◌++◌, length, map, None}
+use Rattle.std.specs.Prelude.{◌≡◌, ◌<◌, ◌≤◌, ℕ, List, [], ◌++◌, length, map, Option, None}
 use Rattle.nb_lines.specs.Lines.{first_bad, scripts, script_lines, IsBad}
 use Rattle.nb_log.specs.declared.event.Event.{Event}
 use Rattle.nb_log.specs.declared.entry.Entry.{Entry}
 use Rattle.nb_doc.specs.declared.document.Document.{Document}
 use Rattle.nb_doc.specs.Faults.{IsTold}
 use Rattle.nb_doc.specs.Documents.{first_fault}
-use Rattle.nb_history.specs.Headline.{IsHistoryOf}
+use Rattle.nb_io.specs.declared.spawner.ChildRun.{ChildRun}
+use Rattle.nb_loader.specs.Loads.{as_loaders}
+use Rattle.nb_main.specs.Run.{HasHistory}
 use Rattle.nb_history.specs.Print.{printing}
 use Rattle.nb_main.specs.declared.status.Status.{Status}
 use Rattle.nb_main.specs.declared.status.Status.TheVariants as status
@@ -52,16 +54,17 @@ opening_lines events = map (λ (event : Event). (0, event)) events
 abbrev pub all_lines : Document → List ℕ → List (ℕ × Event)
 all_lines document input = opening_lines document.lines ++ script_lines (scripts input)
 
--- The text is the printing of the history of these lines, over the document's builtins. No loader is run.
-pub record IsOutcome (document : Document) (input text : List ℕ) : Type 0 where
+-- The text is the printing of the history of these lines, over the document's builtins, with its loaders, and with the runs
+-- of their programs that were made.
+pub record IsOutcome (document : Document) (input : List ℕ) (before now : Option (List ChildRun)) (text : List ℕ) : Type 0 where
   pub log : List Entry
-  pub history : IsHistoryOf document.builtins [] (all_lines document input) [] log
+  pub history : HasHistory document.builtins (as_loaders document.loaders) (all_lines document input) before now log
   pub printed : text ≡ printing document.builtins log
 
 -- the bytes are readable, and this comes of them
-pub record GivesRun (document : Document) (input text : List ℕ) : Type 0 where
+pub record GivesRun (document : Document) (input : List ℕ) (before now : Option (List ChildRun)) (text : List ℕ) : Type 0 where
   pub readable : IsReadable input
-  pub outcome : IsOutcome document input text
+  pub outcome : IsOutcome document input before now text
 
 -- a line of bytes that aren't too many is bad; memory may run out
 abbrev pub RefusesLines : List ℕ → Status → Type 0

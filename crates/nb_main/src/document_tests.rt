@@ -6,7 +6,10 @@ use std::test::Fail;
 const PRICES: &[u8] =
     b"{\n  \"notebook\": 2,\n  \"builtins\": {\"tax\": 20},\n  \"modules\": [\n    {\"name\": \"prices\", \"items\": [\n      {\"cell\": \"net = 100\"},\n      {\"cell\": \"gross = net + net * tax / 100\"}\n    ]},\n    {\"name\": \"page\", \"items\": [\n      {\"import\": \"gross\", \"from\": \"prices\"},\n      {\"cell\": \"label = \\\"to pay: \\\" + text(gross)\"}\n    ]}\n  ]\n}\n";
 
-const CASES: [Case<'static>; 16] = [
+const LOADED: &[u8] =
+    b"{\"notebook\":1,\"modules\":[{\"items\":[{\"cell\":\"rows = fetch(\\\"rows\\\")\"},{\"cell\":\"bad = fetch(\\\"bad\\\")\"},{\"cell\":\"n = len(rows)\"}]}],\"loaders\":[{\"key\":\"rows\",\"argv\":[\"echo\",\"[1, 2, 3]\"]},{\"key\":\"bad\",\"argv\":[\"sh\",\"-c\",\"exit 1\"]}]}";
+
+const CASES: [Case<'static>; 17] = [
     Case {
         name: "a notebook and a line",
         words: &["run", "prices.json"],
@@ -16,13 +19,19 @@ const CASES: [Case<'static>; 16] = [
         ..PLAIN
     },
     Case {
-        name: "a fetch that a loader could answer",
+        name: "two loaders, of which one fails",
         words: &["run", "nb.json"],
-        files: &[(
-            "nb.json",
-            b"{\"notebook\":1,\"modules\":[{\"items\":[{\"cell\":\"rows = fetch(\\\"rows\\\")\"}]}],\"loaders\":[{\"key\":\"rows\",\"argv\":[\"echo\",\"[1]\"]}]}",
-        )],
-        out: b"[\"edit\",0,{\"cell\":\"rows = fetch(\\\"rows\\\")\",\"do\":\"cell\",\"module\":0,\"observed\":true}]\n[\"pending\",1,[]]\n[\"asked\",1,1,\"rows\"]\n[\"value\",1,\"rows\",\"waiting\"]\n[\"done\",3]\n",
+        input: b"{\"do\":\"rest\"}\n",
+        files: &[("nb.json", LOADED)],
+        ends: &[(0, b"[1, 2, 3]\n"), (1, b"")],
+        out: b"[\"edit\",0,{\"cell\":\"rows = fetch(\\\"rows\\\")\",\"do\":\"cell\",\"module\":0,\"observed\":true}]\n[\"pending\",1,[]]\n[\"asked\",1,1,\"rows\"]\n[\"loaded\",1,\"value\",[1,2,3]]\n[\"fulfilled\",1,[1,2,3]]\n[\"edit\",0,{\"cell\":\"bad = fetch(\\\"bad\\\")\",\"do\":\"cell\",\"module\":0,\"observed\":true}]\n[\"pending\",2,[]]\n[\"asked\",2,2,\"bad\"]\n[\"loaded\",2,\"error\",\"status 1\"]\n[\"rejected\",2,\"FetchFailed\",\"status 1\",null]\n[\"edit\",0,{\"cell\":\"n = len(rows)\",\"do\":\"cell\",\"module\":0,\"observed\":true}]\n[\"pending\",3,[]]\n[\"fulfilled\",3,3]\n[\"rest\",0]\n[\"value\",1,\"rows\",\"fulfilled\",[1,2,3]]\n[\"value\",2,\"bad\",\"rejected\",\"FetchFailed\",\"status 1\",null]\n[\"value\",3,\"n\",\"fulfilled\",3]\n[\"done\",14]\n",
+        ..PLAIN
+    },
+    Case {
+        name: "loaders whose programs don't start",
+        words: &["run", "nb.json"],
+        files: &[("nb.json", LOADED)],
+        out: b"[\"edit\",0,{\"cell\":\"rows = fetch(\\\"rows\\\")\",\"do\":\"cell\",\"module\":0,\"observed\":true}]\n[\"pending\",1,[]]\n[\"asked\",1,1,\"rows\"]\n[\"loaded\",1,\"error\",\"spawn\"]\n[\"rejected\",1,\"FetchFailed\",\"spawn\",null]\n[\"edit\",0,{\"cell\":\"bad = fetch(\\\"bad\\\")\",\"do\":\"cell\",\"module\":0,\"observed\":true}]\n[\"pending\",2,[]]\n[\"asked\",2,2,\"bad\"]\n[\"loaded\",2,\"error\",\"spawn\"]\n[\"rejected\",2,\"FetchFailed\",\"spawn\",null]\n[\"edit\",0,{\"cell\":\"n = len(rows)\",\"do\":\"cell\",\"module\":0,\"observed\":true}]\n[\"pending\",3,[]]\n[\"rejected\",3,\"FetchFailed\",\"spawn\",\"rows\"]\n[\"value\",1,\"rows\",\"rejected\",\"FetchFailed\",\"spawn\",null]\n[\"value\",2,\"bad\",\"rejected\",\"FetchFailed\",\"spawn\",null]\n[\"value\",3,\"n\",\"rejected\",\"FetchFailed\",\"spawn\",\"rows\"]\n[\"done\",13]\n",
         ..PLAIN
     },
     Case {

@@ -1,6 +1,7 @@
 //! What is read of the file that the words name.
 ghost use Rattle.std.specs.Prelude.{◌≡◌, ◌≤◌, ℕ, List, Some, length, IfOk, IfErr};
 ghost use Rattle.std.specs.Option.{option_copied};
+ghost use Rattle.nb_doc.specs.Loading.{HasWords};
 ghost use Rattle.nb_main.specs.Answers.{AgreesFile, AsksFor, IsDocument, StopsAtFile, UpgradesTo, seen_files};
 ghost use Rattle.nb_main.specs.Ends.{limit};
 
@@ -29,6 +30,7 @@ pub fn document_of<F: Files>(
 ) -> Result<Document, Status>
     ensures is { IfOk result (IsDocument (seen_files F.file_of F.faults files.old files.new) (option_copied file.entry)) }
     ensures few { IfOk result (λ document. length document.builtins ≤ 65536) }
+    ensures words { IfOk result (λ document. HasWords document.loaders) }
     ensures stops { IfErr result (StopsAtFile (seen_files F.file_of F.faults files.old files.new) (option_copied file.entry)) }
     ensures asks { AsksFor (option_copied file.entry) (F.asked files.old) (F.asked files.new) }
     ensures stays { (n : List ℕ) → F.file_of files.new n ≡ F.file_of files.old n }
@@ -47,6 +49,7 @@ pub fn document_of<F: Files>(
 fn named_document<F: Files>(alloc: Global, name: &Text, files: &mut F) -> Result<Document, Status>
     ensures is { IfOk result (IsDocument (seen_files F.file_of F.faults files.old files.new) (Some name.now)) }
     ensures few { IfOk result (λ document. length document.builtins ≤ 65536) }
+    ensures words { IfOk result (λ document. HasWords document.loaders) }
     ensures stops { IfErr result (StopsAtFile (seen_files F.file_of F.faults files.old files.new) (Some name.now)) }
     ensures asks { AsksFor (Some name.now) (F.asked files.old) (F.asked files.new) }
     ensures stays { (n : List ℕ) → F.file_of files.new n ≡ F.file_of files.old n }
