@@ -11,3 +11,4 @@ pub mod PartLemmas
 pub mod Order
 pub mod Floats
 pub mod UpgradedFits
+pub mod Trailing
