@@ -12,3 +12,8 @@ pub mod Order
 pub mod Floats
 pub mod UpgradedFits
 pub mod Trailing
+pub mod ModuleNames
+pub mod SetFields
+pub mod UpgradedItems
+pub mod UpgradedModules
+pub mod UpgradedSays

@@ -1,13 +1,13 @@
 -- A line feed after a text changes nothing of what is read of it as JSON.
-use Rattle.std.proofs.Common.{◌≡◌, inr, ℕ, zero, suc, ◌+◌, ◌-◌, ◌*◌, ◌≤◌, ◌&&◌, ◌||◌, ◌==◌, List, [], ◌∷◌, ◌++◌, Bool, true, false, cond, length, take, drop, nat_eq, nat_lt, Option, Some, None, option_map, option_and_then, refl, sym, ap, ap₂, ◌∙◌, arith, length-append}
+use Rattle.std.proofs.Common.{◌≡◌, inr, ℕ, zero, suc, ◌+◌, ◌-◌, ◌*◌, ◌≤◌, ◌&&◌, ◌||◌, ◌==◌, List, [], ◌∷◌, ◌++◌, Bool, true, false, cond, length, take, drop, nat_eq, Option, Some, None, option_map, option_and_then, refl, ap, ap₂, ◌∙◌, arith, length-append}
 use Rattle.std.proofs.lemmas.List.{take-append-le, drop-append-le}
 use Rattle.std.specs.Cmp.Lexicographic.{pointwise}
 use Rattle.std.specs.List.{prefix_len}
 use Rattle.std.specs.Char.{is_ascii_digit, is_digit, digit_value, encode_utf8}
 use Rattle.json.specs.Token.{Token, boolean, null, number, bad}
-use Rattle.json.specs.Text.{Within, plain, after_backslash, after_u, after_high, code_unit, short_escape, is_high_surrogate, is_low_surrogate, surrogate_pair, prepend, content}
-use Rattle.json.specs.Word.{head, ends_word, after_digits, after_minus, after_sign, after_whole, after_fraction, after_exponent, after_number, number_before, literal, word}
-use Rattle.json.specs.Lex.{Lexeme, token, Class, quote, backslash, operator, space, other, class, operator_lexeme, string_token, Mode, between, in_word, in_string, in_escape, lex_byte, lex, fresh, punctuate, tokens}
+use Rattle.json.specs.Text.{Within, plain, after_backslash, after_u, after_high, code_unit, short_escape, is_high_surrogate, is_low_surrogate, prepend, content}
+use Rattle.json.specs.Word.{ends_word, after_digits, after_minus, after_sign, after_whole, after_fraction, after_exponent, after_number, number_before, literal, word}
+use Rattle.json.specs.Lex.{token, Class, quote, backslash, operator, space, other, class, operator_lexeme, string_token, Mode, between, in_word, in_string, in_escape, lex_byte, lex, fresh, punctuate, tokens}
 use Rattle.std.specs.Str.{IsUtf8}
 use Rattle.std.proofs.lemmas.Str.{IsUtf8-append}
 use Rattle.json.proofs.Printed.Utf8.{IsUtf8-IsGap}
@@ -175,12 +175,13 @@ literal_more name k t h = ap₂ (λ a b. cond (a && b) k bad) (front_more name t
 word_more : (x : ℕ) (xs : List ℕ) → word (more (x ∷ xs)) ≡ word (x ∷ xs)
 unfolding word
 word_more x xs =
-    rw
-      (literal_more ascii.true_text (boolean true) (x ∷ xs) (refl, (refl, (refl, (refl, tt)))),
+    rw (
+      literal_more ascii.true_text (boolean true) (x ∷ xs) (refl, (refl, (refl, (refl, tt)))),
       literal_more ascii.false_text (boolean false) (x ∷ xs) (refl, (refl, (refl, (refl, (refl, tt))))),
       literal_more ascii.null_text null (x ∷ xs) (refl, (refl, (refl, (refl, tt)))),
       leaves_number (x ∷ xs),
-      number_more (x ∷ xs) (after_number (x ∷ xs)))
+      number_more (x ∷ xs) (after_number (x ∷ xs)),
+    )
     refl
 
 -- ---- all

@@ -1,5 +1,5 @@
 -- What was written is read again; the line feed after it changes nothing.
-use Rattle.std.proofs.Common.{◌≡◌, ℕ, List, Some, ◌∙◌, ap, sym, subst}
+use Rattle.std.proofs.Common.{◌∙◌, ap}
 use Rattle.serde_json.specs.View.{view}
 use Rattle.nb_lines.specs.Reasons.{line_data}
 use Rattle.nb_doc.proofs.Trailing.{line_read_again}
