@@ -11,3 +11,9 @@ pub mod PartLemmas
 pub mod Order
 pub mod Floats
 pub mod UpgradedFits
+pub mod Trailing
+pub mod ModuleNames
+pub mod SetFields
+pub mod UpgradedItems
+pub mod UpgradedModules
+pub mod UpgradedSays

@@ -1,5 +1,5 @@
 -- A document in version 2: as it was read, or with names for its modules where it is of version 1.
-use Rattle.std.specs.Prelude.{ℕ, ◌+◌, Bool, List, [], ◌∷◌, ◌++◌, Option, option_map, option_and_then, Result, if◌then◌else◌}
+use Rattle.std.specs.Prelude.{◌≡◌, ℕ, ◌+◌, Bool, List, [], ◌∷◌, ◌++◌, Option, None, option_map, option_and_then, Result, if◌then◌else◌}
 use Rattle.std.specs.Option.{option_map_or}
 use Rattle.std.specs.Fmt.{decimal}
 use Rattle.serde_json.specs.Data.{Data, string, number, array, object, unsigned, Items, no_items, item, put}
@@ -11,7 +11,8 @@ use Rattle.nb_doc.specs.declared.form.Field.{Field}
 use Rattle.nb_doc.specs.declared.form.Field.TheVariants as field
 use Rattle.nb_doc.specs.declared.reason.DocFail.{DocFail}
 use Rattle.nb_doc.specs.Forms.{field_name}
-use Rattle.nb_doc.specs.Documents.{is_named, first_fault, Reads}
+use Rattle.nb_doc.specs.declared.document.Document.{Document}
+use Rattle.nb_doc.specs.Documents.{is_named, first_fault, document_of, Reads}
 
 -- ---- objects
 
@@ -76,3 +77,7 @@ upgraded bytes = option_map (λ d. json_line (upgraded_data d)) (line_data bytes
 -- these bytes come, where the document has no fault; else its first fault comes; memory may run out
 abbrev pub UpgradesDocument : List ℕ → Result (List ℕ) DocFail → Type 0
 UpgradesDocument bytes result = Reads (first_fault bytes) (upgraded bytes) result
+
+-- the bytes have no fault, and are this document
+abbrev pub IsReadAs : Option Document → List ℕ → Type 0
+IsReadAs document bytes = (first_fault bytes ≡ None) × (document_of bytes ≡ document)

@@ -1,13 +1,16 @@
 //! Documents in version 2.
-ghost use Rattle.std.specs.Prelude.{◌≡◌, ℕ, List, false, Some, None, Err, IfOk, IfErr, OnOk, option_map, string_bytes};
+ghost use Rattle.std.specs.Prelude.{◌≡◌, ◌≤◌, ℕ, List, false, Some, None, Err, IfOk, IfErr, OnOk, option_map, string_bytes};
 ghost use Rattle.serde_json.specs.View.{view, items_view};
+ghost use Rattle.serde_json.specs.Data.{depth};
+ghost use Rattle.serde_json.specs.Read.{max_depth};
 ghost use Rattle.serde_json.specs.Written.{has_float};
+ghost use Rattle.nb_lines.specs.Reasons.{line_data};
 ghost use Rattle.nb_doc.specs.declared.form.Field.TheVariants as field;
 ghost use Rattle.nb_doc.specs.declared.reason.DocReason.{DocReason as Reason};
 ghost use Rattle.nb_doc.specs.declared.reason.DocFail.TheVariants.{Bad};
 ghost use Rattle.nb_doc.specs.Faults.{Fails, IsTold};
-ghost use Rattle.nb_doc.specs.Documents.{first_fault, UnlessMemory};
-ghost use Rattle.nb_doc.specs.Upgraded.{with_field, number_at as number_at_data, array_at as array_at_data, module_name, by_name, items_by_name, with_items as with_items_data, named_module as named_module_data, named_modules as named_modules_data, with_modules as with_modules_data, upgraded_by, json_line as json_line_of, upgraded, UpgradesDocument};
+ghost use Rattle.nb_doc.specs.Documents.{first_fault, document_of, UnlessMemory};
+ghost use Rattle.nb_doc.specs.Upgraded.{with_field, number_at as number_at_data, array_at as array_at_data, module_name, by_name, items_by_name, with_items as with_items_data, named_module as named_module_data, named_modules as named_modules_data, with_modules as with_modules_data, upgraded_by, upgraded_data, json_line as json_line_of, upgraded, UpgradesDocument, IsReadAs};
 
 use crate::arrays::keep;
 use crate::form::Field;
@@ -27,6 +30,8 @@ pub fn upgrade(alloc: Global, bytes: &[u8]) -> Result<Bytes, DocFail>
     ensures text { UpgradesDocument bytes.now result }
     // No other fault is answered, and none where there is none.
     ensures only { (path : List ℕ) (reason : Reason) → IsTold (first_fault bytes.now) path reason → UnlessMemory result (result ≡ Err (Bad path reason)) }
+    // What comes has no fault, and is read as the same document.
+    ensures same { IfOk result (λ b. IsReadAs (document_of bytes.now) b) }
 {
     upgraded_bytes(alloc, bytes)
 }
@@ -35,6 +40,7 @@ pub fn upgrade(alloc: Global, bytes: &[u8]) -> Result<Bytes, DocFail>
 fn upgraded_bytes(alloc: Global, bytes: &[u8]) -> Result<Bytes, DocFail>
     ensures good { IfOk result (λ b. first_fault bytes.now ≡ None) }
     ensures said { IfOk result (λ b. upgraded bytes.now ≡ Some b) }
+    ensures data { IfOk result (λ b. line_data b ≡ option_map upgraded_data (line_data bytes.now)) }
     ensures bad { IfErr result (Fails (first_fault bytes.now)) }
 {
     let mut tree = tree_of(alloc, bytes)?;
@@ -46,7 +52,8 @@ fn upgraded_bytes(alloc: Global, bytes: &[u8]) -> Result<Bytes, DocFail>
 /// Compact JSON and a line feed, of what has no number that isn't whole.
 fn json_line(alloc: Global, tree: &Tree) -> Result<Bytes, AllocError>
     requires { has_float (view tree.now) ≡ false }
-    ensures { IfOk result (λ b. b ≡ json_line_of (view tree.now)) }
+    ensures text { IfOk result (λ b. b ≡ json_line_of (view tree.now)) }
+    ensures data { IfOk result (λ b. depth (view tree.now) ≤ max_depth → line_data b ≡ Some (view tree.now)) }
 {
     let mut bytes = tree.to_vec(alloc)?;
     bytes.push(b'\n')?;

@@ -3,7 +3,7 @@
 use crate::tests::{Case, PLAIN, check};
 use std::test::Fail;
 
-const CASES: [Case<'static>; 16] = [
+const EDITS_AND_FETCHES: [Case<'static>; 9] = [
     Case {
         name: "one of two of a name deleted",
         input: b"{\"do\":\"cell\",\"module\":0,\"cell\":\"x = 1\"}\n{\"do\":\"cell\",\"module\":0,\"cell\":\"x = 2\"}\n{\"do\":\"cell\",\"module\":0,\"cell\":\"y = x\"}\n{\"do\":\"delete\",\"variable\":2}\n",
@@ -58,6 +58,9 @@ const CASES: [Case<'static>; 16] = [
         out: b"[\"refused\",0,24,\"NoAsk\",{\"do\":\"settle\",\"key\":\"z\",\"value\":1}]\n[\"done\",1]\n",
         ..PLAIN
     },
+];
+
+const GENERATORS_AND_DERIVED_MODULES: [Case<'static>; 7] = [
     Case {
         name: "a generator to its end",
         input: b"{\"do\":\"cell\",\"module\":0,\"cell\":\"g = { yield 1; yield 2; yield 3; }\"}\n{\"do\":\"frame\"}\n{\"do\":\"frame\"}\n{\"do\":\"frame\"}\n{\"do\":\"frame\"}\n{\"do\":\"frame\"}\n",
@@ -103,8 +106,16 @@ const CASES: [Case<'static>; 16] = [
 ];
 
 #[test]
-fn each_line_comes_out(rt: HostRuntime) -> Result<(), Fail> {
-    for case in &CASES {
+fn edits_and_fetches(rt: HostRuntime) -> Result<(), Fail> {
+    for case in &EDITS_AND_FETCHES {
+        check(&rt, rt.alloc(), case)?;
+    }
+    Ok(())
+}
+
+#[test]
+fn generators_and_derived_modules(rt: HostRuntime) -> Result<(), Fail> {
+    for case in &GENERATORS_AND_DERIVED_MODULES {
         check(&rt, rt.alloc(), case)?;
     }
     Ok(())
