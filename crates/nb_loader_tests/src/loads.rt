@@ -64,12 +64,12 @@ const ROWS: &[Row] = &[
         failing: &[],
         log: "[\"pending\",1,[]]\n[\"asked\",1,1,\"rows\"]\n[\"loaded\",1,\"error\",\"output\"]\n[\"rejected\",1,\"FetchFailed\",\"output\",null]\n[\"pending\",2,[]]\n[\"asked\",2,2,\"bad\"]\n[\"loaded\",2,\"error\",\"status -1\"]\n[\"rejected\",2,\"FetchFailed\",\"status -1\",null]\n",
     },
-    // One byte too many, whatever the status.
+    // One byte too many.
     Row {
         cells: BOTH,
         ends: &[
             End {
-                status: 3,
+                status: 0,
                 spaces: 65_537,
                 text: "",
             },

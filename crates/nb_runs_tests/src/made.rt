@@ -20,12 +20,12 @@ fn footing(alloc: Global) -> Footing
 }
 
 /// A new start at a place.
-pub fn started(alloc: Global, place: u64) -> Started {
+pub(crate) fn started(alloc: Global, place: u64) -> Started {
     Started::new(alloc, place, footing(alloc))
 }
 
 /// The starts of variables 1 and 2, at the places 2 and 3.
-pub fn two_starts(alloc: Global) -> Result<Vec<Option<Started>>, AllocError> {
+pub(crate) fn two_starts(alloc: Global) -> Result<Vec<Option<Started>>, AllocError> {
     let mut list = Vec::new(alloc);
     list.push(Some(started(alloc, 2)))?;
     list.push(Some(started(alloc, 3)))?;
@@ -33,7 +33,7 @@ pub fn two_starts(alloc: Global) -> Result<Vec<Option<Started>>, AllocError> {
 }
 
 /// Cleanups: one number.
-pub fn one_cleanup(alloc: Global, number: i64) -> Result<Items<Value>, AllocError> {
+pub(crate) fn one_cleanup(alloc: Global, number: i64) -> Result<Items<Value>, AllocError> {
     let mut cleanups = Items::new(alloc);
     cleanups.push(Value::Int(number))?;
     Ok(cleanups)

@@ -96,7 +96,11 @@ fn counts_a_writer_s_error(rt: HostRuntime) -> Result<(), Fail> {
     Ok(())
 }
 
-pub fn length_of<F: Files>(files: &mut F, name: &str, limit: usize) -> Result<usize, FileFail> {
+pub(crate) fn length_of<F: Files>(
+    files: &mut F,
+    name: &str,
+    limit: usize,
+) -> Result<usize, FileFail> {
     Ok(files.read_file(name, limit)?.len())
 }
 
@@ -126,7 +130,7 @@ fn reads_files(rt: HostRuntime) -> Result<(), Fail> {
     Ok(())
 }
 
-pub fn end_of<P: Spawner>(
+pub(crate) fn end_of<P: Spawner>(
     programs: &mut P,
     argv: &Argv,
     limit: usize,
