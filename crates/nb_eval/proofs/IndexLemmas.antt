@@ -330,3 +330,19 @@ the_next name at ls (inr h) other = h
 pub at_least : (name : List ℕ) (at : ℕ) (ls : List (Field Value)) → HasNext name at ls → at ≤ length ls
 at_least name at ls (inl len) = omega (arith, len)
 at_least name at ls (inr h) = omega (arith, h.0)
+
+-- ---- a local that stands at the place under its number is its name's innermost
+
+number_at : (number : List ℕ → Option ℕ) (ns : List (List ℕ)) (ks : List ℕ) (at : ℕ) (name : List ℕ) (k : ℕ) → map number ns ≡ map Some ks → slice_get ns at ≡ Some name → slice_get ks at ≡ Some k → number name ≡ Some k
+number_at number [] ks at name k e n m = absurd (cc)
+number_at number (n ∷ ns) [] at name k e x m = absurd (cc)
+number_at number (n ∷ ns) (j ∷ ks) zero name k e x m = let first : number n ≡ Some j = cc in let is : n ≡ name = cc in let same : j ≡ k = cc in ap number (sym is) ∙ first ∙ ap Some same
+number_at number (n ∷ ns) (j ∷ ks) (suc at) name k e x m = let rest : map number ns ≡ map Some ks = cc in number_at number ns ks at name k rest x m
+
+pub innermost_at : (ns : List (List ℕ)) (ks : List ℕ) (os : List (Option ℕ)) (number : List ℕ → Option ℕ) (tops : List (Option ℕ)) (name : List ℕ) (at k : ℕ) → IsIndexed ns ks os number tops → slice_get ns at ≡ Some name → slice_get ks at ≡ Some k → under tops (Some k) ≡ Some at → last_place name ns ≡ Some at
+innermost_at ns ks os number tops name at k h n m top = sym (h.places name) ∙ ap (under tops) (number_at number ns ks at name k h.numbered n m) ∙ top
+
+pub slice_get-map : {A B : Type 0} (f : A → B) (xs : List A) (at : ℕ) (x : A) → slice_get xs at ≡ Some x → slice_get (map f xs) at ≡ Some (f x)
+slice_get-map f [] at x e = absurd (cc)
+slice_get-map f (y ∷ xs) zero x e = let is : y ≡ x = cc in ap (λ z. Some (f z)) is
+slice_get-map f (y ∷ xs) (suc at) x e = slice_get-map f xs at x e

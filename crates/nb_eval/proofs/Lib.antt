@@ -4,10 +4,10 @@ mod Lasts
 mod IndexLemmas
 mod InputLemmas
 mod MemberLemmas
-mod Calls
+pub mod Calls
 pub mod Wholes
 pub mod Closed
-mod Scopes
+pub mod Scopes
 pub mod Yields
 pub mod Endings
 pub mod Spending

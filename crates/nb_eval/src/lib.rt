@@ -1,25 +1,25 @@
 //! The evaluation of cells.
 #![tactic(auto)]
 
-mod call;
+pub mod call;
 mod copy;
 mod done;
-mod effects;
+pub mod effects;
 mod expr;
 mod finished;
 mod given;
-mod inputs;
+pub mod inputs;
 mod law;
-mod locals;
-mod members;
-mod names;
-mod operate;
-mod path;
-mod replay;
-mod state;
-mod steps;
+pub mod locals;
+pub mod members;
+pub mod names;
+pub mod operate;
+pub mod path;
+pub mod replay;
+pub mod state;
+pub mod steps;
 mod stmt;
-mod stop;
+pub mod stop;
 mod work;
 
 pub use done::is_work_of;

@@ -1,11 +1,11 @@
 //! The locals of an evaluation, with numbers for their names.
 
-ghost use Rattle.std.specs.Prelude.{◌≡◌, ◌∷◌, ◌++◌, [], ◌<◌, ◌-◌, List, ℕ, Option, length, map, take, slice_get, slice_set, string_bytes, IfOk, OnOk, OnErr};
+ghost use Rattle.std.specs.Prelude.{◌≡◌, ◌∷◌, ◌++◌, [], ◌<◌, ◌-◌, List, ℕ, Option, length, map, take, slice_get, slice_set, string_bytes, true, Some, IfOk, OnOk, OnErr};
 ghost use Rattle.std.specs.Option.{option_copied};
 ghost use Rattle.std.specs.BTreeMap.{get_by_text};
 ghost use Rattle.nb_value.specs.Fields.{names};
 ghost use Rattle.nb_eval.specs.Locals.{name_value, place, local_of};
-ghost use Rattle.nb_eval.specs.LocalsIndex.{IsIndexed, Sets, under};
+ghost use Rattle.nb_eval.specs.LocalsIndex.{IsIndexed, Sets, last_place, under};
 
 use nb_value::{Field, Text, Value};
 use std::alloc::{AllocError, Global};
@@ -75,7 +75,19 @@ impl Locals {
         under(self.tops.as_slice(), self.numbers.get(name).copied())
     }
 
-    fn get(&self, at: usize) -> Option<&Field<Value>>
+    /// The place of the innermost local of this name, as `place` gives it. Where that is `near`, it takes one comparison and no
+    /// look-up.
+    pub fn place_near(&self, name: &str, near: usize) -> Option<usize>
+        ensures { result ≡ place name.now self.now }
+    {
+        if stands_at(self.list.as_slice(), self.tops.as_slice(), name, near) {
+            return Some(near);
+        }
+        self.place(name)
+    }
+
+    /// The local at a place.
+    pub fn get(&self, at: usize) -> Option<&Field<Value>>
         ensures { option_copied result ≡ slice_get self.now at }
     {
         match self.list.get(at) {
@@ -131,6 +143,18 @@ fn under(tops: &[Option<usize>], number: Option<usize>) -> Option<usize>
     match number {
         Some(number) => tops.get(number).copied().flatten(),
         None => None,
+    }
+}
+
+// Whether the innermost local of this name is known to stand there.
+fn stands_at(list: &[Local], tops: &[Option<usize>], name: &str, at: usize) -> bool
+    ensures { result ≡ true → (number : List ℕ → Option ℕ) → IsIndexed (names (map (λ l. l.field) list.now)) (map (λ l. l.number) list.now) (map (λ l. l.outer) list.now) number tops.now → last_place name.now (names (map (λ l. l.field) list.now)) ≡ Some at }
+{
+    match list.get(at) {
+        Some(local) => {
+            local.field.name.as_str() == name && under(tops, Some(local.number)) == Some(at)
+        }
+        None => false,
     }
 }
 

@@ -105,7 +105,8 @@ fn within_size(alloc: Global, generates: bool, value: Value) -> Result<Ending, A
     Ok(Ending::Failed(error(alloc, ErrorKind::TooLarge, "value")?))
 }
 
-fn ending_of(
+/// How an evaluation ends, of a generator or of another cell, with this outcome. The outcome is moved into it.
+pub fn ending_of(
     alloc: Global,
     generates: bool,
     outcome: Result<Value, Stop>,

@@ -1,0 +1,12 @@
+pub mod Leads
+pub mod Exprs
+pub mod Stmts
+pub mod Steps
+pub mod Charges
+pub mod Suspended
+pub mod Blind
+pub mod Points
+pub mod Piles
+pub mod Falls
+pub mod Owed
+pub mod Arms

@@ -1,0 +1,31 @@
+-- Whether a charge is next can be seen of the top.
+use Rattle.std.proofs.Common.{◌≡◌, Bool, true, false, List, [], ◌∷◌, Option, Some, None, refl, sym}
+use Rattle.std.specs.Prelude.{slice_get}
+use Rattle.nb_eval.specs.declared.given.Segment.{Segment}
+use Rattle.nb_eval.specs.declared.stop.Stop.{Stop}
+use Rattle.nb_eval.specs.Evaluation.{run, charges}
+use Rattle.nb_machine.specs.declared.instr.Slot.{Slot}
+use Rattle.nb_machine.specs.declared.instr.Slot.TheVariants as slot
+use Rattle.nb_machine.specs.Machine.{end_of}
+use Rattle.nb_machine.specs.Suspended.{owes}
+use Rattle.nb_machine.specs.Held.{Held, held_end}
+use Rattle.nb_machine.proofs.Points.{charges_at_stop}
+
+abbrev pub owes_on : Option Slot → Bool
+owes_on (Some (slot.Value v)) = true
+owes_on (Some slot.Unpaid) = true
+owes_on _ = false
+
+pub owes_top : (ss : List Slot) → owes ss ≡ owes_on (slice_get ss 0)
+owes_top [] = refl
+owes_top (slot.Value v ∷ ss) = refl
+owes_top (slot.Unpaid ∷ ss) = refl
+owes_top (slot.Values vs ∷ ss) = refl
+owes_top (slot.Fields fs ∷ ss) = refl
+owes_top (slot.Turns vs ∷ ss) = refl
+owes_top (slot.Mark n ∷ ss) = refl
+
+-- a machine that ended has made all charges
+pub all_charged : (g : Segment) (k : Held) (o : Option Stop) → ((x : Stop) → o ≡ Some x → held_end (end_of (run g)) ≡ (x, k)) → (o ≡ None → ⊥) → k.charges ≡ charges g
+all_charged g k None ends n = absurd (n refl)
+all_charged g k (Some x) ends n = sym (charges_at_stop g x k (ends x refl))

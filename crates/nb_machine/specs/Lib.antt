@@ -1,0 +1,5 @@
+pub mod Code
+pub mod Machine
+pub mod Suspended
+pub mod Held
+pub mod Unique
