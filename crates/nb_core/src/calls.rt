@@ -167,11 +167,6 @@ impl Core {
     {
         self.machine.sheet()
     }
-
-    /// Where values are kept.
-    pub(crate) fn allocator(&self) -> Global {
-        self.alloc
-    }
 }
 
 /// What a start shows.

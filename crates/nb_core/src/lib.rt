@@ -7,10 +7,8 @@ mod machine;
 mod placed;
 mod replayed;
 mod replaying;
-mod settling;
 
 pub use calls::Core;
 pub use placed::{Placed, Shown};
 pub use replayed::Reading;
 pub use replaying::reading;
-pub use settling::settle;
