@@ -346,3 +346,11 @@ pub slice_get-map : {A B : Type 0} (f : A → B) (xs : List A) (at : ℕ) (x : A
 slice_get-map f [] at x e = absurd (cc)
 slice_get-map f (y ∷ xs) zero x e = let is : y ≡ x = cc in ap (λ z. Some (f z)) is
 slice_get-map f (y ∷ xs) (suc at) x e = slice_get-map f xs at x e
+
+pub names-get : (ls : List (Field Value)) (at : ℕ) (l : Field Value) → slice_get ls at ≡ Some l → slice_get (names ls) at ≡ Some l.name
+names-get ls at l e = slice_get-map (λ (l : Field Value). l.name) ls at l e
+
+pub slice_get-get_or : {A : Type 0} (xs : List A) (at : ℕ) (x : A) → at < length xs → ((d : A) → x ≡ get_or xs at d) → slice_get xs at ≡ Some x
+slice_get-get_or [] at x lt e = absurd (omega (arith, lt))
+slice_get-get_or (y ∷ xs) zero x lt e = ap Some (sym (e y))
+slice_get-get_or (y ∷ xs) (suc at) x lt e = slice_get-get_or xs at x (omega (arith, lt)) e

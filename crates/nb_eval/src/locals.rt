@@ -4,7 +4,7 @@ ghost use Rattle.std.specs.Prelude.{◌≡◌, ◌∷◌, ◌++◌, [], ◌<◌,
 ghost use Rattle.std.specs.Option.{option_copied};
 ghost use Rattle.std.specs.BTreeMap.{get_by_text};
 ghost use Rattle.nb_value.specs.Fields.{names};
-ghost use Rattle.nb_eval.specs.Locals.{name_value, place, local_of};
+ghost use Rattle.nb_eval.specs.Locals.{name_value, place};
 ghost use Rattle.nb_eval.specs.LocalsIndex.{IsIndexed, Sets, last_place, under};
 
 use nb_value::{Field, Text, Value};
@@ -96,16 +96,6 @@ impl Locals {
         }
     }
 
-    /// The innermost local of this name, found as its place is.
-    pub fn local_of(&self, name: &str) -> Option<&Field<Value>>
-        ensures { option_copied result ≡ local_of name.now self.now }
-    {
-        match self.place(name) {
-            Some(at) => self.get(at),
-            None => None,
-        }
-    }
-
     /// A new local, in the time of a look-up on average. It fails only without memory, and then nothing has changed.
     pub fn push(&mut self, alloc: Global, field: Field<Value>) -> Result<(), AllocError>
         ensures ok { OnOk result (self.new ≡ self.old ++ field ∷ []) }
@@ -150,10 +140,11 @@ fn under(tops: &[Option<usize>], number: Option<usize>) -> Option<usize>
 fn stands_at(list: &[Local], tops: &[Option<usize>], name: &str, at: usize) -> bool
     ensures { result ≡ true → (number : List ℕ → Option ℕ) → IsIndexed (names (map (λ l. l.field) list.now)) (map (λ l. l.number) list.now) (map (λ l. l.outer) list.now) number tops.now → last_place name.now (names (map (λ l. l.field) list.now)) ≡ Some at }
 {
-    match list.get(at) {
-        Some(local) => {
-            local.field.name.as_str() == name && under(tops, Some(local.number)) == Some(at)
-        }
+    let Some(local) = list.get(at) else {
+        return false;
+    };
+    match under(tops, Some(local.number)) {
+        Some(top) => top == at && local.field.name.as_str() == name,
         None => false,
     }
 }
