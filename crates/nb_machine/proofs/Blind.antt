@@ -72,9 +72,9 @@ module _ (A B : Type 0) (f : A → Run B) (k : (a : A) → Blind B (f a)) where
 -- ---- what instructions are made of
 
 of_charge : (n : ℕ) → Blind (Unit {0}) (charge n)
-of_charge n = over (Unit {0}) (charge n) (λ h ys zs l m. alike_if (Unit {0}) (nat_lt h.fuel n) _ _ _ _
-    (quiet (Unit {0}) (Err (stops.Failed (error OutOfFuel []))) (record h { charges = h.charges + 1 }) ys zs l m)
-    (quiet (Unit {0}) (Ok tt) (record h { fuel = h.fuel - n; charges = h.charges + 1 }) ys zs l m))
+of_charge n = over (Unit {0}) (charge n) (λ h ys zs l m. alike_if (Unit {0}) (nat_lt h.state.fuel n) _ _ _ _
+    (quiet (Unit {0}) (Err (stops.Failed (error OutOfFuel []))) (record h { state = record h.state { charges = h.state.charges + 1 } }) ys zs l m)
+    (quiet (Unit {0}) (Ok tt) (record h { state = record h.state { fuel = h.state.fuel - n; charges = h.state.charges + 1 } }) ys zs l m))
 
 of_lift : (A : Type 0) (r : Called A) → Blind A (lift r)
 of_lift A r = fixed A (settled r)
@@ -83,43 +83,43 @@ of_read : (g : Segment) (name : List ℕ) → Blind Value (read g name)
 of_read g name = over Value (read g name) (λ h ys zs l m. quiet Value _ h ys zs l m)
 
 of_keep : (name : List ℕ) (v : Value) → Blind (Unit {0}) (keep name v)
-of_keep name v = over (Unit {0}) (keep name v) (λ h ys zs l m. quiet (Unit {0}) (Ok tt) (record h { locals = h.locals ++ name_value name v ∷ [] }) ys zs l m)
+of_keep name v = over (Unit {0}) (keep name v) (λ h ys zs l m. quiet (Unit {0}) (Ok tt) (record h { state = record h.state { locals = h.state.locals ++ name_value name v ∷ [] } }) ys zs l m)
 
 of_cut : (n : ℕ) → Blind (Unit {0}) (cut_to n)
-of_cut n = over (Unit {0}) (cut_to n) (λ h ys zs l m. quiet (Unit {0}) (Ok tt) (record h { locals = take n h.locals }) ys zs l m)
+of_cut n = over (Unit {0}) (cut_to n) (λ h ys zs l m. quiet (Unit {0}) (Ok tt) (record h { state = record h.state { locals = take n h.state.locals } }) ys zs l m)
 
 of_assign_at : (at : Option ℕ) (name : List ℕ) (v : Value) → OverYields (Unit {0}) (assign_at at name v)
 of_assign_at None name v h ys zs l m = quiet (Unit {0}) _ h ys zs l m
-of_assign_at (Some at) name v h ys zs l m = quiet (Unit {0}) (Ok tt) (record h { locals = slice_set h.locals at (name_value name v) }) ys zs l m
+of_assign_at (Some at) name v h ys zs l m = quiet (Unit {0}) (Ok tt) (record h { state = record h.state { locals = slice_set h.state.locals at (name_value name v) } }) ys zs l m
 
 of_assign : (name : List ℕ) (v : Value) → Blind (Unit {0}) (assign name v)
-of_assign name v = over (Unit {0}) (assign name v) (λ h ys zs l m. of_assign_at (place name h.locals) name v h ys zs l m)
+of_assign name v = over (Unit {0}) (assign name v) (λ h ys zs l m. of_assign_at (place name h.state.locals) name v h ys zs l m)
 
 of_clean : (v : Value) → Blind (Unit {0}) (cleaned v)
 of_clean v = over (Unit {0}) (cleaned v) (λ h ys zs l m. alike_if (Unit {0}) (nat_lt 1024 (size v)) _ _ _ _ (quiet (Unit {0}) _ h ys zs l m)
-    (alike_if (Unit {0}) (nat_lt (length h.cleanups) 16) _ _ _ _ (quiet (Unit {0}) (Ok tt) (record h { cleanups = h.cleanups ++ v ∷ [] }) ys zs l m) (quiet (Unit {0}) _ h ys zs l m)))
+    (alike_if (Unit {0}) (nat_lt (length h.state.cleanups) 16) _ _ _ _ (quiet (Unit {0}) (Ok tt) (record h { state = record h.state { cleanups = h.state.cleanups ++ v ∷ [] } }) ys zs l m) (quiet (Unit {0}) _ h ys zs l m)))
 
 of_answer : (o : Option Answer) (key : List ℕ) → OverYields Value (answered o key)
 of_answer None key h ys zs l m = quiet Value (Err (stops.Needs key)) h ys zs l m
-of_answer (Some a) key h ys zs l m = quiet Value (settled (value_of a)) (record h { taken = h.taken + 1 }) ys zs l m
+of_answer (Some a) key h ys zs l m = quiet Value (settled (value_of a)) (record h { state = record h.state { taken = h.state.taken + 1 } }) ys zs l m
 
 of_ask_at : (g : Segment) (x : value.Value-F Value) → Blind Value (ask_at g x)
 of_ask_at g (value.Text key) = over Value (ask_text g key) (λ h ys zs l m. alike_if Value (nat_lt 1024 (1 + length key)) _ _ _ _ (quiet Value _ h ys zs l m)
-    (alike_if Value (nat_lt h.fetches 64) _ _ _ _ (of_answer (slice_get g.answers h.taken) key (record h { fetches = h.fetches + 1 }) ys zs l m) (quiet Value _ h ys zs l m)))
+    (alike_if Value (nat_lt h.state.fetches 64) _ _ _ _ (of_answer (slice_get g.answers h.state.taken) key (record h { state = record h.state { fetches = h.state.fetches + 1 } }) ys zs l m) (quiet Value _ h ys zs l m)))
 of_ask_at g x = of_lift Value (failed WrongKind (codes "fetch"))
 
 of_yield : (g : Segment) (v : Value) → Blind (Unit {0}) (yielded g v)
 of_yield g v = over (Unit {0}) (yielded g v) (λ h ys zs l m.
     let l' : length (ys ++ v ∷ []) ≡ length (zs ++ v ∷ []) = omega (arith, l, length-append ys (v ∷ []), length-append zs (v ∷ [])) in
     let m' = last_added ys v ∙ sym (last_added zs v) in
-    let on : Bool → List Value → Out (Unit {0}) = λ b us. if b then (Ok tt, with_yields (record h { fuel = full_fuel; fetches = 0 }) us) else (Err stops.Paused, with_yields h us) in
+    let on : Bool → List Value → Out (Unit {0}) = λ b us. if b then (Ok tt, with_yields (record h { state = record h.state { fuel = full_fuel; fetches = 0 } }) us) else (Err stops.Paused, with_yields h us) in
     alike_if (Unit {0}) (nat_lt 16384 (size v)) _ _ _ _ (quiet (Unit {0}) _ h ys zs l m)
     (subst (λ (n : ℕ). Alike (Unit {0}) (on (nat_lt (length (ys ++ v ∷ [])) g.pulls) (ys ++ v ∷ [])) (on (nat_lt n g.pulls) (zs ++ v ∷ []))) l'
-    (alike_if (Unit {0}) (nat_lt (length (ys ++ v ∷ [])) g.pulls) _ _ _ _ (quiet (Unit {0}) (Ok tt) (record h { fuel = full_fuel; fetches = 0 }) (ys ++ v ∷ []) (zs ++ v ∷ []) l' m') (quiet (Unit {0}) (Err stops.Paused) h (ys ++ v ∷ []) (zs ++ v ∷ []) l' m'))))
+    (alike_if (Unit {0}) (nat_lt (length (ys ++ v ∷ [])) g.pulls) _ _ _ _ (quiet (Unit {0}) (Ok tt) (record h { state = record h.state { fuel = full_fuel; fetches = 0 } }) (ys ++ v ∷ []) (zs ++ v ∷ []) l' m') (quiet (Unit {0}) (Err stops.Paused) h (ys ++ v ∷ []) (zs ++ v ∷ []) l' m'))))
 
 of_owed : (ss : List Slot) → Blind (Unit {0}) (owed ss)
 of_owed (slot.Value v ∷ ss) = of_charge (1 + size v)
-of_owed (slot.Unpaid ∷ ss) = over (Unit {0}) (owed (slot.Unpaid ∷ ss)) (λ h ys zs l m. quiet (Unit {0}) (Err (stops.Failed (error OutOfFuel []))) (record h { charges = h.charges + 1 }) ys zs l m)
+of_owed (slot.Unpaid ∷ ss) = over (Unit {0}) (owed (slot.Unpaid ∷ ss)) (λ h ys zs l m. quiet (Unit {0}) (Err (stops.Failed (error OutOfFuel []))) (record h { state = record h.state { charges = h.state.charges + 1 } }) ys zs l m)
 of_owed [] = fixed (Unit {0}) (Err stops.Memory)
 of_owed (slot.Values vs ∷ ss) = fixed (Unit {0}) (Err stops.Memory)
 of_owed (slot.Fields fs ∷ ss) = fixed (Unit {0}) (Err stops.Memory)
@@ -189,7 +189,7 @@ left_of p skip (v ∷ vs) ss = goes p (slot.Turns (v ∷ vs) ∷ ss)
 
 taken : (p : Spot) (name : List ℕ) (vs : List Value) (ss : List Slot) → Blind Spot (take_turn p name vs ss)
 taken p name [] ss = fixed Spot (Err stops.Memory)
-taken p name (v ∷ vs) ss = over Spot (take_turn p name (v ∷ vs) ss) (λ h ys zs l m. quiet Spot (Ok (spot (p.pc + 1) (slot.Mark (length h.locals) ∷ slot.Turns vs ∷ ss))) (record h { locals = h.locals ++ name_value name v ∷ [] }) ys zs l m)
+taken p name (v ∷ vs) ss = over Spot (take_turn p name (v ∷ vs) ss) (λ h ys zs l m. quiet Spot (Ok (spot (p.pc + 1) (slot.Mark (length h.state.locals) ∷ slot.Turns vs ∷ ss))) (record h { state = record h.state { locals = h.state.locals ++ name_value name v ∷ [] } }) ys zs l m)
 
 module _ (g : Segment) where
   pub does_blind : (x : Instr) (p : Spot) → Blind Spot (does g x p)
@@ -199,7 +199,7 @@ module _ (g : Segment) where
   does_blind i.Values p = goes p (slot.Values [] ∷ p.slots)
   does_blind i.Append p = on_value p.slots _ (λ v ss. on_values ss _ (λ vs rest. goes p (slot.Values (vs ++ v ∷ []) ∷ rest)))
   does_blind i.List p = on_values p.slots _ (λ vs ss. given p ss (lift (within_depth (V.List vs))) (of_lift Value (within_depth (V.List vs))))
-  does_blind (i.Call f) p = on_values p.slots _ (λ vs ss. lifted Value (called f vs) (λ v s. to p (billed s.fuel v ∷ ss) s) (λ v. over Spot (λ s. to p (billed s.fuel v ∷ ss) s) (λ h ys zs l m. quiet Spot (Ok (spot (p.pc + 1) (billed h.fuel v ∷ ss))) h ys zs l m)))
+  does_blind (i.Call f) p = on_values p.slots _ (λ vs ss. lifted Value (called f vs) (λ v s. to p (billed s.fuel v ∷ ss) s) (λ v. over Spot (λ s. to p (billed s.fuel v ∷ ss) s) (λ h ys zs l m. quiet Spot (Ok (spot (p.pc + 1) (billed h.state.fuel v ∷ ss))) h ys zs l m)))
   does_blind i.Fields p = goes p (slot.Fields [] ∷ p.slots)
   does_blind (i.Put n) p = on_value p.slots _ (λ v ss. on_fields ss _ (λ fs rest. goes p _))
   does_blind i.Record p = on_fields p.slots _ (λ fs ss. given p ss (lift (within_depth (V.Rec fs))) (of_lift Value (within_depth (V.Rec fs))))
@@ -217,7 +217,7 @@ module _ (g : Segment) where
   does_blind i.Tick p = acted p p.slots tick (of_charge 1)
   does_blind (i.Let n) p = on_value p.slots _ (λ v ss. acted p ss (keep n v) (of_keep n v))
   does_blind (i.Assign n) p = on_value p.slots _ (λ v ss. acted p ss (assign n v) (of_assign n v))
-  does_blind i.Enter p = over Spot (does g i.Enter p) (λ h ys zs l m. quiet Spot (Ok (spot (p.pc + 1) (slot.Mark (length h.locals) ∷ p.slots))) h ys zs l m)
+  does_blind i.Enter p = over Spot (does g i.Enter p) (λ h ys zs l m. quiet Spot (Ok (spot (p.pc + 1) (slot.Mark (length h.state.locals) ∷ p.slots))) h ys zs l m)
   does_blind i.Leave p = on_mark p.slots _ (λ n ss. acted p ss (cut_to n) (of_cut n))
   does_blind i.Turns p = on_value p.slots _ (λ v ss. lifted (List Value) (items_of (codes "for") v) (λ vs. to p (slot.Turns vs ∷ ss)) (λ vs. goes p (slot.Turns vs ∷ ss)))
   does_blind (i.Next skip) p = on_turns p.slots _ (λ vs ss. left_of p skip vs ss)

@@ -7,7 +7,8 @@ use Rattle.nb_eval.specs.Run.{Out}
 use Rattle.nb_eval.specs.Evaluation.{run}
 use Rattle.nb_machine.specs.Code.{Code}
 use Rattle.nb_machine.specs.Machine.{Spot, step, follow, go, code_of, end_of}
-use Rattle.nb_machine.specs.Held.{Held, hold, state_of, held_step, held_end, held_go, EndsHeld, IsPulledTo, StandsAt, left_of}
+use Rattle.nb_machine.specs.Held.{Held, hold, state_of, held_step, held_end, held_go, EndsHeld, IsPulledTo, StandsAt}
+use Rattle.nb_machine.specs.Standing.{left_at}
 use Rattle.nb_machine.specs.Unique.{only}
 use Rattle.nb_machine.proofs.Points.{on_to, held_on, after_is, is_held, go_alike}
 
@@ -24,41 +25,19 @@ module _ (g : Segment) (code : Code) (e : Stop × Held) where
       let m : n.0 ≡ y.0 = only g code e n.0 y.0 q (state_of k) (sym (go_alike g code n.0 q a.0 (state_of k) alike) ∙ n.2) y.1 in
       omega (arith, n.1, m)
 
-pub falls : (g : Segment) (p q : Spot) (h k : Held) → held_step g (code_of g) p h ≡ held_on q k → (o : Option Stop)
-    (stands : o ≡ None → StandsAt g p h) (pulled : o ≡ None → IsPulledTo g.pulls h) (stands' : o ≡ None → StandsAt g q k) (pulled' : o ≡ None → IsPulledTo g.pulls k)
-    → o ≡ None → left_of g q k o stands' pulled' < left_of g p h o stands pulled
-unfolding left_of
-falls g p q h k same None stands pulled stands' pulled' is =
-    less g (code_of g) (held_end (end_of (run g))) p q h k same (stands refl g.answers g.pulls (λ at a lt x. x) (pulled refl)) (stands' refl g.answers g.pulls (λ at a lt x. x) (pulled' refl))
-falls g p q h k same (Some x) stands pulled stands' pulled' is = absurd (cc)
+pub falls : (g : Segment) (p q : Spot) (h k : Held) → held_step g (code_of g) p h ≡ held_on q k → (a : StandsAt g p h) (b : IsPulledTo g.pulls h) (c : StandsAt g q k) (d : IsPulledTo g.pulls k) → left_at g q k c d < left_at g p h a b
+unfolding left_at
+falls g p q h k same a b c d =
+    less g (code_of g) (held_end (end_of (run g))) p q h k same (a g.answers g.pulls (λ at v lt x. x) b) (c g.answers g.pulls (λ at v lt x. x) d)
 
-some_more : (g : Segment) (code : Code) (e : Stop × Held) (p : Spot) (h : Held) (x : EndsHeld g code e p h) → 0 < x.0
-some_more g code e p h x = by_number x.0 x.1
+-- there is one more at least
+pub some_left : (g : Segment) (p : Spot) (h : Held) (a : StandsAt g p h) (b : IsPulledTo g.pulls h) → 0 < left_at g p h a b
+unfolding left_at
+some_left g p h a b = by_number x.0 x.1
   where
-    by_number : (n : ℕ) → held_go (go g code n p (state_of h)) ≡ Some e → 0 < n
+    x : EndsHeld g (code_of g) (held_end (end_of (run g))) p h
+    x = a g.answers g.pulls (λ at v lt y. y) b
+
+    by_number : (n : ℕ) → held_go (go g (code_of g) n p (state_of h)) ≡ Some (held_end (end_of (run g))) → 0 < n
     by_number zero w = absurd (cc)
     by_number (suc n) w = omega arith
-
--- where it ends, none is left
-pub none_left : (g : Segment) (p q : Spot) (h k : Held) (x : Stop) (o : Option Stop) (stands : o ≡ None → StandsAt g p h) (pulled : o ≡ None → IsPulledTo g.pulls h)
-    (stands' : Some x ≡ None → StandsAt g q k) (pulled' : Some x ≡ None → IsPulledTo g.pulls k)
-    → o ≡ None → left_of g q k (Some x) stands' pulled' < left_of g p h o stands pulled
-unfolding left_of
-none_left g p q h k x None stands pulled stands' pulled' is = some_more g (code_of g) (held_end (end_of (run g))) p h (stands refl g.answers g.pulls (λ at a lt x. x) (pulled refl))
-none_left g p q h k x (Some y) stands pulled stands' pulled' is = absurd (cc)
-
-left_same : (g : Segment) (p : Spot) (h : Held) (o : Option Stop) (a b : o ≡ None → StandsAt g p h) (c d : o ≡ None → IsPulledTo g.pulls h) → left_of g p h o a c ≡ left_of g p h o b d
-unfolding left_of
-left_same g p h None a b c d =
-    let x = a refl g.answers g.pulls (λ at v lt w. w) (c refl) in
-    let y = b refl g.answers g.pulls (λ at v lt w. w) (d refl) in
-    only g (code_of g) (held_end (end_of (run g))) x.0 y.0 p (state_of h) x.1 y.1
-left_same g p h (Some x) a b c d = refl
-
--- by whatever proofs the number is read
-pub less_any : (g g' : Segment) (p p' : Spot) (h h' : Held) (o o' : Option Stop) (a b : o ≡ None → StandsAt g p h) (c d : o ≡ None → IsPulledTo g.pulls h) (a' b' : o' ≡ None → StandsAt g' p' h') (c' d' : o' ≡ None → IsPulledTo g'.pulls h')
-    → left_of g' p' h' o' a' c' < left_of g p h o a c → left_of g' p' h' o' b' d' < left_of g p h o b d
-less_any g g' p p' h h' o o' a b c d a' b' c' d' lt =
-    let x = left_same g p h o a b c d in
-    let y = left_same g' p' h' o' a' b' c' d' in
-    omega (arith, x, y, lt)

@@ -9,4 +9,6 @@ pub mod Points
 pub mod Piles
 pub mod Falls
 pub mod Owed
-pub mod Arms
+pub mod Deaf
+pub mod Pays
+pub mod Room

@@ -24,8 +24,3 @@ owes_top (slot.Values vs ∷ ss) = refl
 owes_top (slot.Fields fs ∷ ss) = refl
 owes_top (slot.Turns vs ∷ ss) = refl
 owes_top (slot.Mark n ∷ ss) = refl
-
--- a machine that ended has made all charges
-pub all_charged : (g : Segment) (k : Held) (o : Option Stop) → ((x : Stop) → o ≡ Some x → held_end (end_of (run g)) ≡ (x, k)) → (o ≡ None → ⊥) → k.charges ≡ charges g
-all_charged g k None ends n = absurd (n refl)
-all_charged g k (Some x) ends n = sym (charges_at_stop g x k (ends x refl))

@@ -126,7 +126,7 @@ stands_after g p q h k e held w answers pulls keeps pulled =
     let a = after_is (step g (code_of g) p s) (Ok q) k e in
     let t = a.0 in
     let m = step_same g answers pulls (slice_get (code_of g) p.pc) p s in
-    let fits_t : Fits g answers pulls t = (subst (λ (x : Held). Keeps x.taken g.answers answers) (sym a.2) keeps, subst (λ (x : Held). x.made ≤ pulls - 1) (sym a.2) pulled) in
+    let fits_t : Fits g answers pulls t = (subst (λ (x : Held). Keeps x.state.taken g.answers answers) (sym a.2) keeps, subst (λ (x : Held). x.made ≤ pulls - 1) (sym a.2) pulled) in
     let f = m.fits q t a.1 fits_t in
     let l = w answers pulls f.0 (subst (λ n. n ≤ pulls - 1) (count_held h held) f.1) in
     let end = held_end (end_of (run (with_more g answers pulls))) in
@@ -160,41 +160,41 @@ kept_right g x k e = kept_is g (end_of (run g)).0 (end_of (run g)).1 refl ∙ ap
 
 -- ---- charges
 
-pub charges_so_far : (g : Segment) (p : Spot) (h : Held) → StandsAt g p h → IsPulledTo g.pulls h → h.charges ≤ charges g
+pub charges_so_far : (g : Segment) (p : Spot) (h : Held) → StandsAt g p h → IsPulledTo g.pulls h → h.state.charges ≤ charges g
 charges_so_far g p h w pulled =
     let l = here g p h w pulled in
     let x = ended g (code_of g) (held_end (end_of (run g))) (go g (code_of g) l.0 p (state_of h)) l.1 in
     let c = no_less g (code_of g) x.0 l.0 p (state_of h) x.1 in
     let d = charges_is g in
-    let same : x.0.1.charges ≡ (end_of (run g)).1.charges = ap (λ (z : Stop × Held). z.1.charges) x.2 in
+    let same : x.0.1.charges ≡ (end_of (run g)).1.charges = ap (λ (z : Stop × Held). z.1.state.charges) x.2 in
     omega (arith, c, d, same)
 
-pub charges_to_come : (g : Segment) (p : Spot) (h : Held) → StandsAt g p h → IsPulledTo g.pulls h → is_pending (slice_get (code_of g) p.pc) p.slots ≡ true → h.charges < charges g
+pub charges_to_come : (g : Segment) (p : Spot) (h : Held) → StandsAt g p h → IsPulledTo g.pulls h → is_pending (slice_get (code_of g) p.pc) p.slots ≡ true → h.state.charges < charges g
 charges_to_come g p h w pulled pending =
     let l = here g p h w pulled in
     let x = ended g (code_of g) (held_end (end_of (run g))) (go g (code_of g) l.0 p (state_of h)) l.1 in
     let c = one_more g (code_of g) x.0 l.0 p (state_of h) pending x.1 in
     let d = charges_is g in
-    let same : x.0.1.charges ≡ (end_of (run g)).1.charges = ap (λ (z : Stop × Held). z.1.charges) x.2 in
+    let same : x.0.1.charges ≡ (end_of (run g)).1.charges = ap (λ (z : Stop × Held). z.1.state.charges) x.2 in
     omega (arith, c, d, same)
 
-pub charges_at_stop : (g : Segment) (x : Stop) (k : Held) → held_end (end_of (run g)) ≡ (x, k) → charges g ≡ k.charges
-charges_at_stop g x k e = charges_is g ∙ ap (λ (z : Stop × Held). z.1.charges) e
+pub charges_at_stop : (g : Segment) (x : Stop) (k : Held) → held_end (end_of (run g)) ≡ (x, k) → charges g ≡ k.state.charges
+charges_at_stop g x k e = charges_is g ∙ ap (λ (z : Stop × Held). z.1.state.charges) e
 
 -- no charge where none is pending, and one where one is
-pub charges_stay : (g : Segment) (p : Spot) (h : Held) → is_pending (slice_get (code_of g) p.pc) p.slots ≡ false → (held_step g (code_of g) p h).1.charges ≡ h.charges
+pub charges_stay : (g : Segment) (p : Spot) (h : Held) → is_pending (slice_get (code_of g) p.pc) p.slots ≡ false → (held_step g (code_of g) p h).1.state.charges ≡ h.state.charges
 charges_stay g p h e = step_calm g (slice_get (code_of g) p.pc) p (state_of h) e
 
-pub charges_rise : (g : Segment) (p : Spot) (h : Held) → is_pending (slice_get (code_of g) p.pc) p.slots ≡ true → (held_step g (code_of g) p h).1.charges ≡ h.charges + 1
+pub charges_rise : (g : Segment) (p : Spot) (h : Held) → is_pending (slice_get (code_of g) p.pc) p.slots ≡ true → (held_step g (code_of g) p h).1.state.charges ≡ h.state.charges + 1
 charges_rise g p h e = step_counts g (slice_get (code_of g) p.pc) p (state_of h) e
 
-pub charges_step : (g : Segment) (p : Spot) (h k : Held) (r : Result Spot Stop) → held_step g (code_of g) p h ≡ (r, k) → k.charges ≡ h.charges + (if is_pending (slice_get (code_of g) p.pc) p.slots then 1 else 0)
+pub charges_step : (g : Segment) (p : Spot) (h k : Held) (r : Result Spot Stop) → held_step g (code_of g) p h ≡ (r, k) → k.state.charges ≡ h.state.charges + (if is_pending (slice_get (code_of g) p.pc) p.slots then 1 else 0)
 charges_step g p h k r e = by_pending (is_pending (slice_get (code_of g) p.pc) p.slots) refl
   where
-    same : k.charges ≡ (held_step g (code_of g) p h).1.charges
-    same = sym (ap (λ (z : Result Spot Stop × Held). z.1.charges) e)
+    same : k.state.charges ≡ (held_step g (code_of g) p h).1.state.charges
+    same = sym (ap (λ (z : Result Spot Stop × Held). z.1.state.charges) e)
 
-    by_pending : (b : Bool) → is_pending (slice_get (code_of g) p.pc) p.slots ≡ b → k.charges ≡ h.charges + (if b then 1 else 0)
+    by_pending : (b : Bool) → is_pending (slice_get (code_of g) p.pc) p.slots ≡ b → k.state.charges ≡ h.state.charges + (if b then 1 else 0)
     by_pending true x = let c = charges_rise g p h x in omega (arith, same, c)
     by_pending false x = let c = charges_stay g p h x in omega (arith, same, c)
 

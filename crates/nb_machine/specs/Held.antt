@@ -1,5 +1,5 @@
 -- What a machine keeps of a state: of the yields their number and the last.
-use Rattle.std.specs.Prelude.{◌≡◌, ℕ, zero, suc, ◌+◌, ◌-◌, nat_lt, if◌then◌else◌, ◌≤◌, List, [], ◌∷◌, length, Option, Some, None, Result, Ok, Err}
+use Rattle.std.specs.Prelude.{◌≡◌, ℕ, Bool, true, false, zero, suc, ◌+◌, ◌-◌, nat_lt, if◌then◌else◌, ◌≤◌, List, [], ◌∷◌, length, Option, Some, None, Result, Ok, Err}
 use Rattle.std.proofs.Common.{refl}
 use Rattle.nb_value.specs.declared.value.Value.{Value}
 use Rattle.nb_value.specs.declared.outcome.Answer.{Answer}
@@ -8,10 +8,10 @@ use Rattle.nb_eval.specs.declared.given.Segment.{Segment}
 use Rattle.nb_eval.specs.declared.given.RunEnd.{RunEnd}
 use Rattle.nb_eval.specs.declared.state.State.{State}
 use Rattle.nb_eval.specs.declared.stop.Stop.{Stop}
-use Rattle.nb_eval.specs.Run.{Out, full_fuel, error}
-use Rattle.nb_eval.specs.declared.stop.Stop.TheVariants.{Failed}
-use Rattle.nb_value.specs.declared.outcome.ErrorKind.TheVariants.{OutOfFuel}
+use Rattle.nb_eval.specs.declared.stop.Stop.TheVariants as stops
+use Rattle.nb_eval.specs.Run.{Out, charge, start_state}
 use Rattle.nb_machine.specs.declared.instr.Slot.{Slot}
+use Rattle.nb_machine.specs.declared.instr.Slot.TheVariants as slot
 use Rattle.nb_machine.specs.declared.instr.Instr.{Instr}
 use Rattle.nb_eval.specs.Evaluation.{run, last_of, ending_of}
 use Rattle.nb_machine.specs.Code.{Code}
@@ -20,10 +20,10 @@ use Rattle.nb_machine.specs.Machine.{Spot, spot, does, step, go, code_of, End, e
 use Rattle.nb_machine.specs.Suspended.{with_more, Keeps}
 
 abbrev pub hold : State → Held
-hold s = record { fuel = s.fuel; charges = s.charges; locals = s.locals; taken = s.taken; fetches = s.fetches; made = length s.yields; last = last_of s.yields; cleanups = s.cleanups }
+hold s = record { state = record s { yields = [] }; made = length s.yields; last = last_of s.yields }
 
 abbrev pub with_yields : Held → List Value → State
-with_yields h ys = record { fuel = h.fuel; charges = h.charges; locals = h.locals; taken = h.taken; fetches = h.fetches; yields = ys; cleanups = h.cleanups }
+with_yields h ys = record h.state { yields = ys }
 
 -- some yields of this number and this last one
 abbrev pub some_yields : ℕ → Option Value → List Value
@@ -40,7 +40,7 @@ abbrev pub IsHeld : Held → Type 0
 IsHeld h = hold (state_of h) ≡ h
 
 abbrev pub start_held : Held
-start_held = record { fuel = full_fuel; charges = 0; locals = []; taken = 0; fetches = 0; made = 0; last = None; cleanups = [] }
+start_held = record { state = start_state; made = 0; last = None }
 
 abbrev pub held_out : {A : Type 0} → Out A → Result A Stop × Held
 held_out o = (o.0, hold o.1)
@@ -70,34 +70,53 @@ IsPulledTo pulls h = h.made ≤ pulls - 1
 -- a point of the evaluation: whatever answers come after those that were taken, and however often it is pulled, from
 -- here the evaluation ends as it does from its start
 abbrev pub StandsAt : Segment → Spot → Held → Type 0
-StandsAt g p h = (answers : List Answer) (pulls : ℕ) → Keeps h.taken g.answers answers → IsPulledTo pulls h →
+StandsAt g p h = (answers : List Answer) (pulls : ℕ) → Keeps h.state.taken g.answers answers → IsPulledTo pulls h →
     EndsHeld (with_more g answers pulls) (code_of g) (held_end (end_of (run (with_more g answers pulls)))) p h
 
 -- what is kept of an end
 abbrev pub end_kept : Segment → Stop → Held → RunEnd
-end_kept g e h = record { made = h.made; last = h.last; cleanups = h.cleanups; ending = ending_of (is_generator g.cell) (Err e) }
+end_kept g e h = record { made = h.made; last = h.last; cleanups = h.state.cleanups; ending = ending_of (is_generator g.cell) (Err e) }
 
--- a machine that ended so holds what the evaluation ends with
-abbrev pub EndsAs : Segment → Held → Option Stop → Type 0
-EndsAs g h ended = (x : Stop) → ended ≡ Some x → held_end (end_of (run g)) ≡ (x, h)
+-- ---- what an instruction leaves where it stops
+
+-- the value on top
+abbrev pub top_value : List Slot → Option Value
+top_value (slot.Value v ∷ ss) = Some v
+top_value _ = None
+
+-- at the want of an answer, and where it pauses, a machine stays as it was before the instruction; the evaluation has counted
+-- the fetch, and has yielded the value on top
+abbrev pub left_by : Stop → Spot → Held → Held
+left_by (stops.Needs key) p h = record h { state = record h.state { fetches = h.state.fetches + 1 } }
+left_by stops.Paused p h = record h { made = h.made + 1; last = top_value p.slots }
+left_by x p h = h
+
+abbrev pub left : Result (Unit {0}) Stop → Spot → Held → Held
+left (Ok u) p h = h
+left (Err x) p h = left_by x p h
+
+-- whether it can go on from there, with an answer or a pull more
+abbrev pub goes_on : Stop → Bool
+goes_on (stops.Needs key) = true
+goes_on stops.Paused = true
+goes_on x = false
+
+abbrev pub Stays : Result (Unit {0}) Stop → Spot → Spot → Held → Held → Type 0
+Stays r p q h k = (x : Stop) → r ≡ Err x → goes_on x ≡ true → (q ≡ p) × (k ≡ h)
 
 -- a run that didn't stop stands somewhere
 abbrev pub moved : Result (Unit {0}) Stop → Spot → Result Spot Stop
 moved (Ok u) p = Ok p
 moved (Err e) p = Err e
 
--- the number of instructions to the end, of a machine that hasn't ended
-unfoldable pub left_of : (g : Segment) (p : Spot) (h : Held) (ended : Option Stop) → (ended ≡ None → StandsAt g p h) → (ended ≡ None → IsPulledTo g.pulls h) → ℕ
-left_of g p h None stands pulled = (stands refl g.answers g.pulls (λ at a lt k. k) (pulled refl)).0
-left_of g p h (Some x) stands pulled = 0
-
 -- ---- instructions over what is held
 
+-- what was done to the state, with the yields as they were
+abbrev pub over : {A : Type 0} → Held → Out A → Result A Stop × Held
+over h o = (o.0, record h { state = o.1 })
+
 abbrev pub held_charge : ℕ → Held → Result (Unit {0}) Stop × Held
-held_charge n h =
-    if nat_lt h.fuel n
-    then (Err (Failed (error OutOfFuel [])), record h { charges = h.charges + 1 })
-    else (Ok tt, record h { fuel = h.fuel - n; charges = h.charges + 1 })
+held_charge n h = over h (charge n h.state)
 
 -- what was done, and the next instruction
 abbrev pub on_next : Spot → List Slot → Result (Unit {0}) Stop × Held → Result Spot Stop × Held

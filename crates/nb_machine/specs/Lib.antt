@@ -2,4 +2,8 @@ pub mod Code
 pub mod Machine
 pub mod Suspended
 pub mod Held
+pub mod Room
 pub mod Unique
+pub mod Standing
+pub mod Parked
+pub mod ToGo

@@ -9,7 +9,7 @@ use Rattle.nb_machine.specs.Code.{Code}
 use Rattle.nb_machine.specs.Machine.{Spot, step, follow, go, code_of, end_of}
 use Rattle.nb_machine.specs.Suspended.{with_more}
 use Rattle.nb_eval.specs.Evaluation.{run}
-use Rattle.nb_machine.specs.Held.{Held, state_of, held_end, held_go, EndsHeld, StandsAt, EndsAs}
+use Rattle.nb_machine.specs.Held.{Held, state_of, held_end, held_go, EndsHeld, StandsAt}
 
 module _ (g : Segment) (code : Code) (e : Stop × Held) where
   pub only : (n m : ℕ) (p : Spot) (s : State) → held_go (go g code n p s) ≡ Some e → held_go (go g code m p s) ≡ Some e → n ≡ m
@@ -36,13 +36,3 @@ module _ (g : Segment) (code : Code) (e : Stop × Held) where
 pub stands_prop : Coded Stop → Coded Held → (g : Segment) (p : Spot) (h : Held) → IsProp (StandsAt g p h)
 stands_prop cs ch g p h = Π_prop {0, 0} (λ answers. Π_prop {0, 0} (λ pulls. Π_prop {0, 0} (λ keeps. Π_prop {0, 0} (λ pulled.
     ends_prop (with_more g answers pulls) (code_of g) (held_end (end_of (run (with_more g answers pulls)))) cs ch p h))))
-
-abbrev inside : {A : Type 0} → A → Option A → A
-inside a None = a
-inside a (Some b) = b
-
-pub code_in : {A : Type 0} → Coded (Option A) → Coded A
-code_in c = record { code = λ a. c.code (Some a); inj = λ x y p. ap (inside x) (c.inj (Some x) (Some y) p) }
-
-pub ends_as_prop : Coded Stop → Coded Held → (g : Segment) (h : Held) (ended : Option Stop) → IsProp (EndsAs g h ended)
-ends_as_prop cs ch g h ended = Π_prop {0, 0} (λ x. Π_prop {0, 0} (λ e. Coded-set (coded× cs ch) (held_end (end_of (run g))) (x, h)))

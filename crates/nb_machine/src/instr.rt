@@ -1,5 +1,6 @@
+use nb_eval::members::Members;
 use nb_syntax::Sign;
-use nb_value::{Function, Items, Pairs, Text, Value};
+use nb_value::{Function, Items, Text, Value};
 
 /// What a test belongs to.
 #[derive(Clone, Copy, Debug, PartialEq, Eq)]
@@ -86,7 +87,7 @@ pub enum Slot {
     /// The values so far of a list or of a call.
     Values(Items<Value>),
     /// The fields so far of a record.
-    Fields(Pairs<Value>),
+    Fields(Members),
     /// What is left of the values of a `for`.
     Turns(Items<Value>),
     /// How many locals there were.

@@ -1,7 +1,12 @@
+ghost use Rattle.std.specs.Prelude.{◌≡◌, []};
+ghost use Rattle.nb_machine.specs.Machine.{spot};
+ghost use Rattle.nb_machine.specs.Held.{start_held};
+
 use crate::instr::Slot;
 use crate::pile::Pile;
-use nb_eval::stack::Stack;
-use nb_value::{Field, Items, Value};
+use nb_eval::state::State;
+use nb_value::Value;
+use std::alloc::Global;
 
 /// Where a machine stands, beside what it holds: the next instruction, and the stack.
 #[derive(Debug, Drop)]
@@ -10,15 +15,35 @@ pub struct Spot {
     pub slots: Pile<Slot>,
 }
 
-/// What a machine keeps of a state: of the yields their number and the last.
+/// What a machine holds: a state without its yields, of which there are only their number and the last.
 #[derive(Debug, Drop)]
 pub struct Held {
-    pub fuel: u64,
-    pub charges: u64,
-    pub locals: Stack<Field<Value>>,
-    pub taken: usize,
-    pub fetches: u64,
-    pub made: u64,
+    pub state: State,
+    pub made: u32,
     pub last: Option<Value>,
-    pub cleanups: Items<Value>,
+}
+
+impl Spot {
+    /// At the first instruction, with nothing on the stack. It takes no memory.
+    pub fn new(alloc: Global) -> Spot
+        ensures { result ≡ spot 0 [] }
+    {
+        Spot {
+            pc: 0,
+            slots: Pile::new(alloc),
+        }
+    }
+}
+
+impl Held {
+    /// What is held at the start. It takes no memory.
+    pub fn new(alloc: Global) -> Held
+        ensures { result ≡ start_held }
+    {
+        Held {
+            state: State::new(alloc),
+            made: 0,
+            last: None,
+        }
+    }
 }
