@@ -48,7 +48,9 @@ over A p k s t h =
 
 -- two states that differ in yields alone
 same_held : (h : Held) (ys zs : List Value) → length ys ≡ length zs → last_of ys ≡ last_of zs → hold (with_yields h ys) ≡ hold (with_yields h zs)
-same_held h ys zs l m = ap (λ n. record h { made = n; last = last_of ys }) l ∙ ap (λ x. record h { made = length zs; last = x }) m
+same_held h ys zs l m =
+    let kept : ℕ → Option Value → Held = λ n x. record { state = record h.state { yields = [] }; made = n; last = x } in
+    ap (λ n. kept n (last_of ys)) l ∙ ap (λ x. kept (length zs) x) m
 
 quiet : (A : Type 0) (r : Result A Stop) (h : Held) (ys zs : List Value) → length ys ≡ length zs → last_of ys ≡ last_of zs → Alike A (r, with_yields h ys) (r, with_yields h zs)
 quiet A r h ys zs l m = (refl, same_held h ys zs l m)

@@ -68,7 +68,7 @@ pub of_clean : (v : Value) → Deaf (Unit {0}) (cleaned v)
 of_clean v s ys = put_if (Unit {0}) ys (nat_lt 1024 (size v)) _ _ _ _ refl (put_if (Unit {0}) ys (nat_lt (length s.cleanups) 16) _ _ _ _ refl refl)
 
 pub of_owed : (ss : List Slot) → Deaf (Unit {0}) (owed ss)
-of_owed (slot.Value v ∷ ss) = of_charge (1 + size v)
+of_owed (slot.Value v ∷ ss) s ys = of_charge (1 + size v) s ys
 of_owed (slot.Unpaid ∷ ss) s ys = refl
 of_owed [] s ys = refl
 of_owed (slot.Values vs ∷ ss) s ys = refl
@@ -88,25 +88,25 @@ then_at q (Ok a, k) = (Ok (q a), k)
 then_at q (Err x, k) = (Err x, k)
 
 module _ (A : Type 0) (d : Run A) (deaf : Deaf A d) (q : A → Spot) (h : Held) (held : IsHeld h) where
-  ys : List Value
-  ys = some_yields h.made h.last
+  abbrev zs : List Value
+  zs = some_yields h.made h.last
 
   same_state : record h.state { yields = [] } ≡ h.state
-  same_state = ap (λ zs. record h.state { yields = zs }) (sym (no_yields h held))
+  same_state = ap (λ us. record h.state { yields = us }) (sym (no_yields h held))
 
   quiet : d h.state ≡ put A [] (d h.state)
   quiet = ap d (sym same_state) ∙ deaf h.state []
 
-  held_as : (t : State) → record t { yields = [] } ≡ t → hold (record t { yields = ys }) ≡ record h { state = t }
+  held_as : (t : State) → record t { yields = [] } ≡ t → hold (record t { yields = zs }) ≡ record h { state = t }
   held_as t e =
       ap (λ (x : Held). record x { state = record t { yields = [] } }) held ∙ ap (λ (u : State). record h { state = u }) e
 
-  by_result : (r : Result A Stop) (t : State) → record t { yields = [] } ≡ t → held_out (after r (record t { yields = ys }) (λ a. pure (q a))) ≡ then_at q (r, record h { state = t })
+  by_result : (r : Result A Stop) (t : State) → record t { yields = [] } ≡ t → held_out (after r (record t { yields = zs }) (λ a. pure (q a))) ≡ then_at q (r, record h { state = t })
   by_result (Ok a) t e = ap (λ (x : Held). let z : Result Spot Stop × Held = (Ok (q a), x) in z) (held_as t e)
   by_result (Err x) t e = ap (λ (y : Held). let z : Result Spot Stop × Held = (Err x, y) in z) (held_as t e)
 
   -- an action, and the spot after it
   pub over_held : held_out ((d >>= (λ a. pure (q a))) (state_of h)) ≡ then_at q (over h (d h.state))
   over_held =
-      ap (λ (o : Out A). held_out (after o.0 o.1 (λ a. pure (q a)))) (deaf h.state ys)
+      ap (λ (o : Out A). held_out (after o.0 o.1 (λ a. pure (q a)))) (deaf h.state zs)
       ∙ by_result (d h.state).0 (d h.state).1 (sym (ap (λ (o : Out A). o.1) quiet))

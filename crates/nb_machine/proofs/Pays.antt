@@ -14,7 +14,7 @@ use Rattle.nb_eval.specs.declared.state.State.{State}
 use Rattle.nb_eval.specs.declared.stop.Stop.{Stop}
 use Rattle.nb_eval.specs.declared.stop.Stop.TheVariants.{Failed}
 use Rattle.nb_eval.specs.Locals.{place}
-use Rattle.nb_eval.specs.Run.{Run, Out, after, ◌>>=◌, lift, error, charge, keep, assign, assign_at, cut_to, truth_of, items_of, within_depth, answered, ask_at, ask, yielded, cleaned, thrown}
+use Rattle.nb_eval.specs.Run.{Run, Out, Called, after, ◌>>=◌, lift, tick, read, error, charge, keep, assign, assign_at, cut_to, truth_of, items_of, within_depth, answered, ask_at, ask, yielded, cleaned, thrown}
 use Rattle.nb_eval.specs.Operate.{summed, multiplied, compared, signed, field_of, part_of}
 use Rattle.nb_machine.specs.declared.instr.Instr.{Instr}
 use Rattle.nb_machine.specs.declared.instr.Instr.TheVariants as i
@@ -37,8 +37,8 @@ module _ (g : Segment) where
   same : (s : State) → Pays g s s
   same s = pays_same g s s refl refl refl
 
-  of_locals : {ls : List (Field Value)} (s : State) → Pays g s (record s { locals = ls })
-  of_locals s = pays_same g s _ refl refl refl
+  of_locals : (ls : List (Field Value)) (s : State) → Pays g s (record s { locals = ls })
+  of_locals ls s = pays_same g s (record s { locals = ls }) refl refl refl
 
   both : (A B : Type 0) (p : Run A) (f : A → Run B) (s : State) → Paid A s (p s) → ((a : A) (t : State) → Paid B t (f a t)) → Paid B s ((p >>= f) s)
   both A B p f s h k = c.of_bind A B p p f f s h k
@@ -58,7 +58,7 @@ module _ (g : Segment) where
 
   of_assign_at : (at : Option ℕ) (name : List ℕ) (v : Value) (s : State) → Paid (Unit {0}) s (assign_at at name v s)
   of_assign_at None name v s = tt
-  of_assign_at (Some at) name v s = of_locals s
+  of_assign_at (Some at) name v s = of_locals _ s
 
   of_ask_at : (x : value.Value-F Value) (s : State) → Paid Value s (ask_at g x s)
   of_ask_at (value.Text key) s = c.of_ask refl key s
@@ -79,7 +79,7 @@ module _ (g : Segment) where
 
   taken : (p : Spot) (name : List ℕ) (vs : List Value) (ss : List Slot) (s : State) → Paid Spot s (take_turn p name vs ss s)
   taken p name [] ss s = tt
-  taken p name (v ∷ vs) ss s = of_locals s
+  taken p name (v ∷ vs) ss s = of_locals _ s
 
   on_value : (ss : List Slot) (f : Value → List Slot → Goes) (s : State) → ((v : Value) (rest : List Slot) → Paid Spot s (f v rest s)) → Paid Spot s (value_on ss f s)
   on_value (slot.Value v ∷ ss) f s k = k v ss
@@ -149,10 +149,10 @@ module _ (g : Segment) where
   does_pays (i.Go skip) p s = same s
   does_pays (i.Back n) p s = same s
   does_pays i.Tick p s = acted p p.slots tick s (of_charge 0 s)
-  does_pays (i.Let n) p s = on_value p.slots _ s (λ v ss. acted p ss (keep n v) s (of_locals s))
+  does_pays (i.Let n) p s = on_value p.slots _ s (λ v ss. acted p ss (keep n v) s (of_locals _ s))
   does_pays (i.Assign n) p s = on_value p.slots _ s (λ v ss. acted p ss (assign n v) s (of_assign_at (place n s.locals) n v s))
   does_pays i.Enter p s = same s
-  does_pays i.Leave p s = on_mark p.slots _ s (λ n ss. acted p ss (cut_to n) s (of_locals s))
+  does_pays i.Leave p s = on_mark p.slots _ s (λ n ss. acted p ss (cut_to n) s (of_locals _ s))
   does_pays i.Turns p s = on_value p.slots _ s (λ v ss. both (List Value) Spot (lift (items_of (codes "for") v)) _ s (of_lift (List Value) (items_of (codes "for") v) s) (λ vs t. same t))
   does_pays (i.Next skip) p s = on_turns p.slots _ s (λ vs ss. left_of p skip vs ss s)
   does_pays (i.Take n) p s = on_turns p.slots _ s (λ vs ss. taken p n vs ss s)

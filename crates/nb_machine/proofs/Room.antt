@@ -37,5 +37,5 @@ room_after g p q h k e held r =
 pub has_room : (g : Segment) (h : Held) → g.pulls < 2 ^ 32 → IsHeld h → Room g.pulls h → HasRoom g h.state
 has_room g h few held r =
     let none : length h.state.yields ≡ 0 = ap length (no_yields h held) in
-    let is : budget g h.state ≡ h.state.fuel + g.pulls * full_fuel = ap (λ n. h.state.fuel + (g.pulls - n) * full_fuel) none in
+    let is : budget g h.state ≡ h.state.fuel + (g.pulls - 0) * full_fuel = ap (λ n. h.state.fuel + (g.pulls - n) * full_fuel) none in
     omega (arith, few, is, r)

@@ -3,6 +3,7 @@ pub mod Machine
 pub mod Suspended
 pub mod Held
 pub mod Room
+pub mod Segments
 pub mod Unique
 pub mod Standing
 pub mod Parked

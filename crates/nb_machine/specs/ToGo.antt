@@ -1,6 +1,6 @@
 -- How far a machine is from its ending.
 use Rattle.std.specs.Prelude.{ℕ, Option, Some, None}
-use Rattle.nb_machine.specs.declared.machine.Ended.{Ended}
+use Rattle.nb_machine.specs.declared.ended.Ended.{Ended}
 use Rattle.nb_machine.specs.declared.machine.Machine.{Machine}
 use Rattle.nb_machine.specs.Standing.{left_of}
 

@@ -18,7 +18,7 @@ pub enum Word {
 }
 
 /// An instruction of a cell's code. A jump says how many instructions it passes.
-#[derive(Debug, Drop)]
+#[derive(Drop)]
 pub enum Instr {
     /// A value of the text.
     Const(Value),
@@ -79,7 +79,7 @@ pub enum Instr {
 }
 
 /// What stands on a machine's stack.
-#[derive(Debug, Drop)]
+#[derive(Drop)]
 pub enum Slot {
     Value(Value),
     /// A value for which the fuel isn't enough, in front of its charge.

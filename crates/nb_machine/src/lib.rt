@@ -2,6 +2,7 @@
 #![tactic(auto)]
 
 mod compile;
+mod ended;
 mod exec;
 mod instr;
 mod machine;
@@ -10,10 +11,14 @@ mod pile;
 mod point;
 mod stack;
 mod standing;
+mod step;
+mod turn;
 
 pub use instr::{Instr, Slot, Word};
-pub use machine::{Ended, Machine, begin};
+pub use ended::Ended;
+pub use machine::Machine;
 pub use parked::Parked;
 pub use pile::Pile;
 pub use point::{Held, Spot};
 pub use standing::Standing;
+pub use step::begin;

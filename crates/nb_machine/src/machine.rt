@@ -1,138 +1,22 @@
 //! A machine.
 
-ghost use Rattle.std.specs.Prelude.{◌≡◌, ◌≢◌, ◌≤◌, ◌<◌, ◌+◌, Some, None, Ok, Err, ◌⊎◌, OnOk, OnErr, IfOk, MatchResult};
+ghost use Rattle.std.specs.Prelude.{◌≡◌, Some};
 ghost use Rattle.std.specs.Coded.{Coded-set, Π_prop, coded_option};
 ghost use Rattle.nb_eval.specs.contracts.given.RunEnd as end_row;
 ghost use Rattle.nb_eval.specs.contracts.given.Segment as segment_row;
 ghost use Rattle.nb_eval.specs.Evaluation.{charges as charges_of, segment_end};
-ghost use Rattle.nb_machine.specs.Parked.{Runs, IsLeftOf, can_go_on, copy_where};
-ghost use Rattle.nb_machine.specs.Standing.{charges_after};
-ghost use Rattle.nb_machine.specs.ToGo.{to_go};
+ghost use Rattle.nb_machine.specs.declared.ended.Ended.{Ended};
+ghost use Rattle.nb_machine.specs.Segments.{can_go_on, copy_where};
 
-use crate::parked::Parked;
+use crate::ended::Ended;
 use crate::standing::Standing;
-use nb_eval::{Ending, Finished, RunEnd, Segment};
-use nb_value::Tree;
-use std::alloc::{AllocError, Global};
-use std::mem::drop;
-
-/// How an evaluation ended: what its segment gives, and a copy of the segment where it can be taken up again.
-#[derive(Debug, Drop)]
-pub struct Ended {
-    pub end: RunEnd,
-    pub copy: Option<Segment>,
-}
 
 /// An evaluation that is made charge by charge.
-#[derive(Debug, Drop)]
+#[derive(Drop)]
 pub struct Machine {
-    standing: Standing,
-    ended: Option<Ended>,
+    pub(crate) standing: Standing,
+    pub(crate) ended: Option<Ended>,
     ghost gives: { (x : Ended) → ended ≡ Some x → x.end ≡ segment_end standing.segment } by { Π_prop {0, 0} (λ x. Π_prop {0, 0} (λ e. Coded-set end_row.the_row.coded x.end (segment_end standing.segment))) },
     ghost whole: { (x : Ended) → ended ≡ Some x → standing.charges ≡ charges_of standing.segment },
     ghost kept: { (x : Ended) → ended ≡ Some x → x.copy ≡ copy_where (can_go_on x.end.ending) standing.segment } by { Π_prop {0, 0} (λ x. Π_prop {0, 0} (λ e. Coded-set (coded_option segment_row.the_row.coded) x.copy (copy_where (can_go_on x.end.ending) standing.segment))) },
-}
-
-/// The machine of a segment, which has made no charge, in time linear in the cell. Where memory ran out, the segment comes
-/// back.
-pub fn begin(alloc: Global, segment: Segment) -> Result<Machine, (Segment, AllocError)>
-    ensures { MatchResult result (λ m. Runs segment 0 m) (λ e. e.0 ≡ segment) }
-{
-    let standing = Standing::new(alloc, segment)?;
-    Ok(Machine::at(standing))
-}
-
-impl Machine {
-    /// The machine that goes on from here. It takes no memory.
-    pub fn at(standing: Standing) -> Machine
-        ensures standing { result.standing ≡ standing }
-        ensures ended { result.ended ≡ None }
-    {
-        Machine {
-            standing,
-            ended: None,
-        }
-    }
-
-    /// What is evaluated. It takes no memory.
-    pub fn segment(&self) -> &Segment
-        ensures { result.now ≡ self.now.standing.segment }
-    {
-        self.standing.segment()
-    }
-
-    /// Makes so many charges, whatever their amounts, but none past the ending, and tells whether it has come there. Where
-    /// memory runs out it may be stepped on: it stands where it stood or at a later charge, though it may have to make its
-    /// charges anew to come there. It takes time in proportion to what is charged.
-    pub fn step(&mut self, alloc: Global, units: u32) -> Result<Option<()>, AllocError>
-        requires { 1 ≤ units }
-        ensures segment { self.new.standing.segment ≡ self.old.standing.segment }
-        ensures done { result ≡ Ok (Some tt) → (self.new.standing.charges ≡ charges_of self.new.standing.segment) × (self.new.standing.charges ≤ self.old.standing.charges + units) × (self.new.ended ≢ None) }
-        ensures more { result ≡ Ok None → (self.new.standing.charges ≡ self.old.standing.charges + units) × (self.new.standing.charges < charges_of self.new.standing.segment) × (self.new.ended ≡ None) }
-        ensures memory { OnErr result ((self.old.standing.charges ≤ self.new.standing.charges) × (self.new.standing.charges ≤ self.old.standing.charges + units) × (self.new.ended ≡ None)) }
-    {
-        let target = self.standing.charges() + units as u64;
-        'run: while self.ended.is_none() {
-            if self.standing.is_due(target) {
-                return Ok(None);
-            }
-            self.turn(alloc)?;
-        }
-        Ok(Some(()))
-    }
-
-    // One instruction of a machine that hasn't ended.
-    fn turn(&mut self, alloc: Global) -> Result<(), AllocError>
-        requires { self.old.ended ≡ None }
-        ensures segment { self.new.standing.segment ≡ self.old.standing.segment }
-        ensures charges { OnOk result (self.new.standing.charges ≡ charges_after self.old.standing) }
-        ensures falls { OnOk result (to_go self.new < to_go self.old) }
-        ensures memory { OnErr result (((self.new.standing.charges ≡ self.old.standing.charges) ⊎ (self.new.standing.charges ≡ charges_after self.old.standing)) × (self.new.ended ≡ None)) }
-    {
-        if let Some(end) = self.standing.turn(alloc)? {
-            self.ended = Some(ended(alloc, self.standing.segment(), end)?);
-        }
-        Ok(())
-    }
-
-    /// The evaluation of the segment, and what is left of it. It takes no memory.
-    pub fn finish(self) -> (Finished, Parked)
-        requires { self.ended ≢ None }
-        ensures segment { result.0.segment ≡ self.standing.segment }
-        ensures parked { IsLeftOf self.standing.segment result.1 }
-    {
-        let Machine { standing, ended } = self;
-        let Ended { end, copy } = ended.unwrap();
-        match (&end.ending, copy) {
-            (Ending::Needs(_), Some(copy)) => {
-                let (segment, standing) = standing.split(copy);
-                (Finished::of(segment, end), Parked::Needs(standing))
-            }
-            (Ending::Paused, Some(copy)) => {
-                let (segment, standing) = standing.split(copy);
-                (Finished::of(segment, end), Parked::Paused(standing))
-            }
-            _ => (Finished::of(standing.into_segment(), end), Parked::Over),
-        }
-    }
-
-    /// The segment that the machine was begun with, with the answers and pulls that came since. It takes no memory.
-    pub fn into_segment(self) -> Segment
-        ensures { result ≡ self.standing.segment }
-    {
-        let Machine { standing, ended } = self;
-        drop(ended);
-        standing.into_segment()
-    }
-}
-
-// An ending, with a copy of the segment where the evaluation can go on.
-fn ended(alloc: Global, segment: &Segment, end: RunEnd) -> Result<Ended, AllocError>
-    ensures { IfOk result (λ x. (x.end ≡ end) × (x.copy ≡ copy_where (can_go_on end.ending) segment.now)) }
-{
-    let copy = match &end.ending {
-        Ending::Needs(_) | Ending::Paused => Some(segment.copy(alloc)?),
-        _ => None,
-    };
-    Ok(Ended { end, copy })
 }

@@ -10,7 +10,7 @@ use std::alloc::{AllocError, Global};
 use std::mem::drop;
 
 /// What is left of an evaluation at its ending: nothing, or where it can be taken up again.
-#[derive(Debug, Drop)]
+#[derive(Drop)]
 pub enum Parked {
     /// It is over.
     Over,

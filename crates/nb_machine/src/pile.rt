@@ -5,7 +5,7 @@ use std::alloc::Global;
 use std::marker::Model;
 
 /// A `Vec` that contracts see as the list of its elements, the last pushed first.
-#[derive(Debug, Drop)]
+#[derive(Drop)]
 pub struct Pile<T> {
     items: Vec<T>,
 }

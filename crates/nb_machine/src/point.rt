@@ -9,14 +9,14 @@ use nb_value::Value;
 use std::alloc::Global;
 
 /// Where a machine stands, beside what it holds: the next instruction, and the stack.
-#[derive(Debug, Drop)]
+#[derive(Drop)]
 pub struct Spot {
     pub pc: usize,
     pub slots: Pile<Slot>,
 }
 
 /// What a machine holds: a state without its yields, of which there are only their number and the last.
-#[derive(Debug, Drop)]
+#[derive(Drop)]
 pub struct Held {
     pub state: State,
     pub made: u32,
