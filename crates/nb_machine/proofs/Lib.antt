@@ -12,3 +12,6 @@ pub mod Owed
 pub mod Deaf
 pub mod Pays
 pub mod Room
+pub mod Goes
+pub mod Turns
+pub mod Steppings

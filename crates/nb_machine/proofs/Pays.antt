@@ -1,6 +1,6 @@
 -- What an instruction charges is paid for.
 use Rattle.std.proofs.Common.{◌≡◌, ℕ, ◌+◌, ◌-◌, Bool, true, false, List, [], ◌∷◌, ◌++◌, length, Option, Some, None, Result, Ok, Err, refl, ◌∙◌, codes}
-use Rattle.std.specs.Prelude.{slice_get, nat_lt, if◌then◌else◌}
+use Rattle.std.specs.Prelude.{take, slice_get, slice_set, nat_lt, if◌then◌else◌}
 use Rattle.nb_value.specs.declared.value.Value.{Value, out-Value}
 use Rattle.nb_value.specs.declared.value.Value.TheOpen as value
 use Rattle.nb_value.specs.declared.value.Value.TheVariants as V
@@ -13,7 +13,7 @@ use Rattle.nb_eval.specs.declared.given.Segment.{Segment}
 use Rattle.nb_eval.specs.declared.state.State.{State}
 use Rattle.nb_eval.specs.declared.stop.Stop.{Stop}
 use Rattle.nb_eval.specs.declared.stop.Stop.TheVariants.{Failed}
-use Rattle.nb_eval.specs.Locals.{place}
+use Rattle.nb_eval.specs.Locals.{name_value, place}
 use Rattle.nb_eval.specs.Run.{Run, Out, Called, after, ◌>>=◌, lift, tick, read, error, charge, keep, assign, assign_at, cut_to, truth_of, items_of, within_depth, answered, ask_at, ask, yielded, cleaned, thrown}
 use Rattle.nb_eval.specs.Operate.{summed, multiplied, compared, signed, field_of, part_of}
 use Rattle.nb_machine.specs.declared.instr.Instr.{Instr}
@@ -58,7 +58,7 @@ module _ (g : Segment) where
 
   of_assign_at : (at : Option ℕ) (name : List ℕ) (v : Value) (s : State) → Paid (Unit {0}) s (assign_at at name v s)
   of_assign_at None name v s = tt
-  of_assign_at (Some at) name v s = of_locals _ s
+  of_assign_at (Some at) name v s = of_locals (slice_set s.locals at (name_value name v)) s
 
   of_ask_at : (x : value.Value-F Value) (s : State) → Paid Value s (ask_at g x s)
   of_ask_at (value.Text key) s = c.of_ask refl key s
@@ -79,7 +79,7 @@ module _ (g : Segment) where
 
   taken : (p : Spot) (name : List ℕ) (vs : List Value) (ss : List Slot) (s : State) → Paid Spot s (take_turn p name vs ss s)
   taken p name [] ss s = tt
-  taken p name (v ∷ vs) ss s = of_locals _ s
+  taken p name (v ∷ vs) ss s = of_locals (s.locals ++ name_value name v ∷ []) s
 
   on_value : (ss : List Slot) (f : Value → List Slot → Goes) (s : State) → ((v : Value) (rest : List Slot) → Paid Spot s (f v rest s)) → Paid Spot s (value_on ss f s)
   on_value (slot.Value v ∷ ss) f s k = k v ss
@@ -149,10 +149,10 @@ module _ (g : Segment) where
   does_pays (i.Go skip) p s = same s
   does_pays (i.Back n) p s = same s
   does_pays i.Tick p s = acted p p.slots tick s (of_charge 0 s)
-  does_pays (i.Let n) p s = on_value p.slots _ s (λ v ss. acted p ss (keep n v) s (of_locals _ s))
+  does_pays (i.Let n) p s = on_value p.slots _ s (λ v ss. acted p ss (keep n v) s (of_locals (s.locals ++ name_value n v ∷ []) s))
   does_pays (i.Assign n) p s = on_value p.slots _ s (λ v ss. acted p ss (assign n v) s (of_assign_at (place n s.locals) n v s))
   does_pays i.Enter p s = same s
-  does_pays i.Leave p s = on_mark p.slots _ s (λ n ss. acted p ss (cut_to n) s (of_locals _ s))
+  does_pays i.Leave p s = on_mark p.slots _ s (λ n ss. acted p ss (cut_to n) s (of_locals (take n s.locals) s))
   does_pays i.Turns p s = on_value p.slots _ s (λ v ss. both (List Value) Spot (lift (items_of (codes "for") v)) _ s (of_lift (List Value) (items_of (codes "for") v) s) (λ vs t. same t))
   does_pays (i.Next skip) p s = on_turns p.slots _ s (λ vs ss. left_of p skip vs ss s)
   does_pays (i.Take n) p s = on_turns p.slots _ s (λ vs ss. taken p n vs ss s)

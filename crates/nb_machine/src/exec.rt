@@ -1,8 +1,8 @@
 //! One instruction.
 
-ghost use Rattle.std.specs.Prelude.{◌≡◌, ◌≢◌, ◌<◌, ◌+◌, length};
+ghost use Rattle.std.specs.Prelude.{◌≡◌, ◌≢◌, ◌≤◌, ◌-◌};
 ghost use Rattle.nb_eval.specs.Run.{HasRoom};
-ghost use Rattle.nb_machine.specs.Held.{IsHeld, held_step, held_does, moved};
+ghost use Rattle.nb_machine.specs.Held.{IsHeld, Stays, held_step, left, moved};
 
 use crate::instr::Instr;
 use crate::point::{Held, Spot};
@@ -10,7 +10,7 @@ use nb_eval::Segment;
 use nb_eval::stop::Stop;
 use std::alloc::Global;
 
-/// The next instruction.
+/// The next instruction. Where it stops for want of an answer or of a pull, the spot and what is held stay as they were.
 pub fn exec(
     alloc: Global,
     given: &Segment,
@@ -20,8 +20,10 @@ pub fn exec(
     held: &mut Held,
 ) -> Result<(), Stop>
     requires held { IsHeld held.old }
+    requires pulled { held.old.made ≤ given.now.pulls - 1 }
     requires room { HasRoom given.now held.old.state }
-    ensures gives { result ≢ Err Stop.Memory → held_step given.now code.now spot.old held.old ≡ (moved result spot.new, held.new) }
+    ensures gives { result ≢ Err Stop.Memory → held_step given.now code.now spot.old held.old ≡ (moved result spot.new, left result spot.old held.new) }
+    ensures stays { Stays result spot.old spot.new held.old held.new }
 {
     let _given = given;
     let _alloc = alloc;

@@ -1,8 +1,8 @@
 //! The steps of a machine.
 
-ghost use Rattle.std.specs.Prelude.{◌≡◌, ◌≢◌, ◌≤◌, ◌<◌, ◌+◌, Some, None, Ok, Err, ◌⊎◌, OnOk, OnErr, IfOk, MatchResult};
+ghost use Rattle.std.specs.Prelude.{◌≡◌, ◌≢◌, ◌≤◌, ◌<◌, ◌+◌, Some, None, true, Ok, Err, ◌⊎◌, OnOk, OnErr, IfOk, MatchResult};
 ghost use Rattle.nb_eval.specs.Evaluation.{charges as charges_of, segment_end};
-ghost use Rattle.nb_machine.specs.Parked.{Runs, IsLeftOf};
+ghost use Rattle.nb_machine.specs.Parked.{Runs, IsLeftAt, IsLeftOf};
 ghost use Rattle.nb_machine.specs.Segments.{can_go_on, copy_where};
 ghost use Rattle.nb_machine.specs.Standing.{charges_after};
 ghost use Rattle.nb_machine.specs.ToGo.{to_go};
@@ -86,16 +86,13 @@ impl Machine {
     {
         let Machine { standing, ended } = self;
         let Ended { end, copy } = ended.unwrap();
-        match (&end.ending, copy) {
-            (Ending::Needs(_), Some(copy)) => {
+        match copy {
+            Some(copy) => {
                 let (segment, standing) = standing.split(copy);
-                (Finished::of(segment, end), Parked::Needs(standing))
+                let parked = parked_at(&end.ending, standing);
+                (Finished::of(segment, end), parked)
             }
-            (Ending::Paused, Some(copy)) => {
-                let (segment, standing) = standing.split(copy);
-                (Finished::of(segment, end), Parked::Paused(standing))
-            }
-            _ => (Finished::of(standing.into_segment(), end), Parked::Over),
+            None => (Finished::of(standing.into_segment(), end), Parked::Over),
         }
     }
 
@@ -118,4 +115,16 @@ fn with_copy(alloc: Global, segment: &Segment, end: RunEnd) -> Result<Ended, All
         _ => None,
     };
     Ok(Ended { end, copy })
+}
+
+// What is left at an ending after which the evaluation can go on.
+fn parked_at(ending: &Ending, standing: Standing) -> Parked
+    requires ending { can_go_on ending.now ≡ true }
+    requires whole { standing.charges ≡ charges_of standing.segment }
+    ensures { IsLeftAt standing.segment ending.now result }
+{
+    match ending {
+        Ending::Needs(_) => Parked::Needs(standing),
+        _ => Parked::Paused(standing),
+    }
 }

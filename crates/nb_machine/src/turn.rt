@@ -120,6 +120,8 @@ impl Standing {
         ensures ends { (e : RunEnd) → result ≡ Ok (Some e) → (e ≡ segment_end self.new.segment) × (self.new.charges ≡ charges_of self.new.segment) }
         ensures memory { OnErr result (self.new.charges ≡ self.old.charges) }
     {
+        // The pulls bound the charges.
+        let _pulls = self.segment.pulls;
         let outcome = exec(
             alloc,
             &self.segment,
@@ -134,13 +136,15 @@ impl Standing {
                 self.charges = charges;
                 Ok(None)
             }
+            Err(stop) if goes_on(&stop) => {
+                let end = end_at(alloc, &self.segment, &self.spot, &self.held, stop)?;
+                self.charges = charges;
+                Ok(Some(end))
+            }
             Err(stop) => {
-                let stays = goes_on(&stop);
                 let end = end_at(alloc, &self.segment, &self.spot, &self.held, stop);
-                if !stays || end.is_err() {
-                    self.spot = Spot::new(alloc);
-                    self.held = Held::new(alloc);
-                }
+                self.spot = Spot::new(alloc);
+                self.held = Held::new(alloc);
                 let end = end?;
                 self.charges = charges;
                 Ok(Some(end))
@@ -200,9 +204,11 @@ fn end_at(
     held: &Held,
     stop: Stop,
 ) -> Result<RunEnd, AllocError>
-    requires { held.now.made ≤ segment.now.pulls - 1 }
+    requires { stop ≡ Stop.Paused → held.now.made ≤ segment.now.pulls - 1 }
     ensures { IfOk result (λ e. (e ≡ end_kept segment.now stop (left_by stop spot.now held.now)) × (stop ≢ Stop.Memory)) }
 {
+    // The pulls bound the yields.
+    let _pulls = segment.pulls;
     let (made, last) = yields_at(alloc, spot, held, &stop)?;
     Ok(RunEnd {
         made,
@@ -219,7 +225,7 @@ fn yields_at(
     held: &Held,
     stop: &Stop,
 ) -> Result<(u32, Option<Value>), AllocError>
-    requires { held.now.made + 1 < 2 ^ 32 }
+    requires { stop.now ≡ Stop.Paused → held.now.made + 1 < 2 ^ 32 }
     ensures { IfOk result (λ y. (y.0 ≡ (left_by stop.now spot.now held.now).made) × (y.1 ≡ (left_by stop.now spot.now held.now).last)) }
 {
     match stop {
