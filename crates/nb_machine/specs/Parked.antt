@@ -38,6 +38,10 @@ abbrev pub waits_for_pull : Parked → Bool
 waits_for_pull (parked.Paused s) = true
 waits_for_pull p = false
 
+abbrev pub is_over : Parked → Bool
+is_over parked.Over = true
+is_over p = false
+
 -- the machine that goes on with this answer, from an evaluation that needs one
 abbrev pub GoesOnWith : Answer → Parked → Machine → Type 0
 GoesOnWith a (parked.Needs s) m = Runs (with_answer s.segment a) s.charges m

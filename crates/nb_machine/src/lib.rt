@@ -3,6 +3,7 @@
 
 mod compile;
 mod ended;
+mod evaluations;
 mod exec;
 mod instr;
 mod machine;
@@ -16,6 +17,7 @@ mod turn;
 
 pub use instr::{Instr, Slot, Word};
 pub use ended::Ended;
+pub use evaluations::Evaluations;
 pub use machine::Machine;
 pub use parked::Parked;
 pub use pile::Pile;

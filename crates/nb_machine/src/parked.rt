@@ -1,7 +1,7 @@
 //! What is left of an evaluation at its ending.
 
 ghost use Rattle.std.specs.Prelude.{◌≡◌, ◌<◌, ◌^◌, ◌+◌, true, MatchResult};
-ghost use Rattle.nb_machine.specs.Parked.{GoesOnWith, GoesOnPulled, needs_answer, pulls_of, waits_for_pull};
+ghost use Rattle.nb_machine.specs.Parked.{GoesOnWith, GoesOnPulled, is_over, needs_answer, pulls_of, waits_for_pull};
 
 use crate::machine::Machine;
 use crate::standing::Standing;
@@ -38,6 +38,27 @@ impl Parked {
         match self {
             Parked::Paused(_) => true,
             _ => false,
+        }
+    }
+
+    /// Whether it is over. It takes no memory.
+    pub fn is_over(&self) -> bool
+        ensures { result ≡ is_over self.now }
+    {
+        match self {
+            Parked::Over => true,
+            _ => false,
+        }
+    }
+
+    /// The pulls that it has had, none where it is over. It takes no memory.
+    pub fn pulls(&self) -> u32
+        ensures { result ≡ pulls_of self.now }
+    {
+        match self {
+            Parked::Needs(standing) => standing.segment().pulls,
+            Parked::Paused(standing) => standing.segment().pulls,
+            Parked::Over => 0,
         }
     }
 
