@@ -2,7 +2,7 @@ use Rattle.std.proofs.Common.{subst}
 use Rattle.nb_eval.specs.Work.{IsOf}
 use Rattle.nb_eval.specs.declared.work.Work.{Work}
 use Rattle.nb_core.proofs.Completes.{places_gains, less_to_do}
-use Rattle.nb_settle.proofs.settling.step.Goals as goal
+use Rattle.nb_settle.proofs.settler.Settler.step.Goals as goal
 
 pub returns-in-Ok-clause-gains : goal.returns-in-Ok-clause-gains
 returns-in-Ok-clause-gains c =

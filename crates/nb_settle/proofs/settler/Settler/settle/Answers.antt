@@ -1,7 +1,7 @@
 use Rattle.std.proofs.Common.{◌∙◌, sym}
 use Rattle.nb_history.specs.History.{standing}
 use Rattle.nb_core.proofs.Runs.{first_ready, settling_goes_on}
-use Rattle.nb_settle.proofs.settling.settle.Goals as goal
+use Rattle.nb_settle.proofs.settler.Settler.settle.Goals as goal
 
 pub step-requires-clause-ready : goal.step-requires-clause-ready
 step-requires-clause-ready c = first_ready (standing c.loop-var.core) c.in-Some.var (sym c.next_ready.ensures.found ∙ c.in-Some.is)
