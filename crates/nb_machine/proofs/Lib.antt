@@ -13,5 +13,6 @@ pub mod Deaf
 pub mod Pays
 pub mod Room
 pub mod Goes
-pub mod Turns
+pub mod Turning
 pub mod Steppings
+pub mod Arms

@@ -1,3 +1,7 @@
+ghost use Rattle.std.specs.Prelude.{◌≡◌};
+ghost use Rattle.nb_machine.specs.Machine.{text_of};
+
+use crate::turns::Turns;
 use nb_eval::members::Members;
 use nb_syntax::Sign;
 use nb_value::{Function, Items, Text, Value};
@@ -15,6 +19,21 @@ pub enum Word {
     If,
     /// `while`
     While,
+}
+
+impl Word {
+    /// The word as an error says it.
+    pub fn text(self) -> &'static str
+        ensures { result.now ≡ text_of self }
+    {
+        match self {
+            Word::And => "&&",
+            Word::Or => "||",
+            Word::Choice => "?",
+            Word::If => "if",
+            Word::While => "while",
+        }
+    }
 }
 
 /// An instruction of a cell's code. A jump says how many instructions it passes.
@@ -89,7 +108,7 @@ pub enum Slot {
     /// The fields so far of a record.
     Fields(Members),
     /// What is left of the values of a `for`.
-    Turns(Items<Value>),
+    Turns(Turns),
     /// How many locals there were.
     Mark(usize),
 }

@@ -7,6 +7,7 @@ mod evaluations;
 mod exec;
 mod instr;
 mod machine;
+mod operators;
 mod parked;
 mod pile;
 mod point;
@@ -14,6 +15,8 @@ mod stack;
 mod standing;
 mod step;
 mod turn;
+mod turns;
+mod values;
 
 pub use instr::{Instr, Slot, Word};
 pub use ended::Ended;

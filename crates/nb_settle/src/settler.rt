@@ -79,12 +79,14 @@ impl Settler {
 
     // Forgets the evaluations of the starts that came to an end since it looked at the log.
     fn keep_up(&mut self, log: &Log) {
-        while let Some(entry) = log.get(self.seen) {
-            match entry {
-                Entry::Left { var } | Entry::Pending { var } => self.evaluations.forget(*var),
+        while self.seen < log.len() {
+            self.seen += 1;
+            match log.get(self.seen) {
+                Some(Entry::Left { var, .. }) | Some(Entry::Pending { var, .. }) => {
+                    self.evaluations.forget(*var)
+                }
                 _ => {}
             }
-            self.seen += 1;
         }
     }
 }

@@ -9,7 +9,7 @@ use Rattle.nb_machine.specs.Room.{Room}
 use Rattle.nb_machine.proofs.Points.{held_on, held_stop, held_at_start, pulled_at_start, stands_at_start}
 use Rattle.nb_machine.proofs.Room.{room_at_start}
 use Rattle.nb_machine.proofs.Falls.{falls}
-use Rattle.nb_machine.proofs.Turns as t
+use Rattle.nb_machine.proofs.Turning as t
 use Rattle.nb_machine.proofs.standing.Standing.turn.Goals as goal
 
 pub invariant_of-self : goal.invariant_of-self
