@@ -24,7 +24,8 @@ use Rattle.nb_machine.specs.declared.instr.Instr.TheVariants as i
 use Rattle.nb_machine.specs.declared.instr.Slot.{Slot}
 use Rattle.nb_machine.specs.declared.instr.Slot.TheVariants as slot
 use Rattle.nb_machine.specs.Machine.{Spot, spot, Goes, value_on, values_on, fields_on, gives, acts, to, owed, billed}
-use Rattle.nb_machine.specs.Held.{Held, IsHeld, state_of, held_out, held_does, over}
+use Rattle.std.specs.Prelude.{OnOk, IfErr}
+use Rattle.nb_machine.specs.Held.{Held, IsHeld, state_of, held_out, held_does, over, moved}
 use Rattle.nb_machine.proofs.Deaf.{Deaf, of_charge, of_lift, of_read, of_owed, over_held, then_at}
 
 module _ (g : Segment) (p : Spot) (h : Held) (held : IsHeld h) where
@@ -185,3 +186,8 @@ module _ (g : Segment) (p : Spot) (h : Held) (held : IsHeld h) where
 
     pub at_wrong_count : length vs ≢ arity f → held_does g (i.Call f) p h ≡ ends (error WrongKind (function_name f))
     at_wrong_count n = at_call f vs rest on_top ∙ ap (λ (r : Called Value). then_at (billed_on rest) (settled r, h)) (wrong_count f vs n)
+
+-- where it goes on with something on top, unless memory runs out
+pub goes_unless : (d : Result Spot Stop × Held) (h : Held) (at q : Spot) (r : Result (Unit {0}) Stop) → d ≡ (let z : Result Spot Stop × Held = (Ok at, h) in z) → OnOk r (q ≡ at) → IfErr r (λ e. e ≡ stops.Memory) → r ≢ Err stops.Memory → d ≡ (moved r q, h)
+goes_unless d h at q (Ok u) is ok err other = is ∙ ap (λ (x : Spot). let z : Result Spot Stop × Held = (Ok x, h) in z) (sym ok)
+goes_unless d h at q (Err e) is ok err other = absurd (other (ap Err err))
