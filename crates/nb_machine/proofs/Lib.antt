@@ -16,3 +16,6 @@ pub mod Goes
 pub mod Turning
 pub mod Steppings
 pub mod Arms
+pub mod Lefts
+pub mod StatementArms
+pub mod EffectArms

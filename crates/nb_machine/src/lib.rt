@@ -2,6 +2,7 @@
 #![tactic(auto)]
 
 mod compile;
+mod effects;
 mod ended;
 mod evaluations;
 mod exec;
@@ -12,6 +13,7 @@ mod parked;
 mod pile;
 mod point;
 mod stack;
+mod statements;
 mod standing;
 mod step;
 mod turn;

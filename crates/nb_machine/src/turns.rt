@@ -33,6 +33,7 @@ impl Turns {
     }
 
     /// Whether none is left. It takes no memory.
+    #[tactic(auto, using(std::proofs::lemmas::List::drop_all, crate::proofs::Lefts::some_left))]
     pub fn is_empty(&self) -> bool
         ensures { IsTrue result ↔ (self.now ≡ []) }
     {
@@ -40,6 +41,7 @@ impl Turns {
     }
 
     /// Takes the next value, by a copy of it, in time linear in it. It fails only without memory, and then nothing has changed.
+    #[tactic(auto, using(crate::proofs::Lefts::next_left, crate::proofs::Lefts::none_left))]
     pub fn take(&mut self, alloc: Global) -> Result<Option<Value>, AllocError>
         ensures some { (v : Value) → result ≡ Ok (Some v) → self.old ≡ v ∷ self.new }
         ensures none { result ≡ Ok None → self.old ≡ [] }
