@@ -19,3 +19,5 @@ pub mod Arms
 pub mod Lefts
 pub mod StatementArms
 pub mod EffectArms
+pub mod Written
+pub mod Execs

@@ -43,7 +43,7 @@ pub fn fetch(alloc: Global, given: &Segment, spot: &mut Spot, held: &mut Held) -
 }
 
 /// Yields the value on top. Where it waits for a pull, the value stays there, and the yield isn't counted.
-#[tactic(auto, using(crate::proofs::EffectArms::at_yield))]
+#[tactic(auto, using(crate::proofs::EffectArms::at_too_large, crate::proofs::EffectArms::at_paused, crate::proofs::EffectArms::at_yielded))]
 pub fn yield_value(
     alloc: Global,
     given: &Segment,
@@ -56,17 +56,20 @@ pub fn yield_value(
     ensures gives { result ≢ Err Stop.Memory → held_does given.now Instr.Yield spot.old held.old ≡ (moved result spot.new, left result spot.old held.new) }
     ensures stays { Stays result spot.old spot.new held.old held.new }
 {
+    // The pulls bound the yields.
+    let pulls = given.pulls;
+    let made = held.made + 1;
     let Some(value) = top_value(&spot.slots) else {
         return Err(Stop::Memory);
     };
     if value.size() > MAX_SHOWN {
         return Err(failure(alloc, ErrorKind::TooLarge, "value"));
     }
-    if held.made + 1 >= given.pulls {
+    if made >= pulls {
         return Err(Stop::Paused);
     }
     held.last = Some(take_value(&mut spot.slots)?);
-    held.made += 1;
+    held.made = made;
     held.state.fuel = FULL_FUEL;
     held.state.fetches = 0;
     spot.pc += 1;

@@ -2,6 +2,9 @@
 #![tactic(auto)]
 
 mod compile;
+mod compile_expr;
+mod compile_stmt;
+mod draft;
 mod effects;
 mod ended;
 mod evaluations;
