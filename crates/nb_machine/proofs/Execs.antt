@@ -1,5 +1,5 @@
 -- The next instruction.
-use Rattle.std.proofs.Common.{◌≡◌, ◌≢◌, Bool, true, false, Option, Some, None, Result, Ok, Err, refl, sym, ap, ◌∙◌, subst}
+use Rattle.std.proofs.Common.{◌≡◌, ◌≢◌, ◌<◌, ℕ, zero, suc, List, [], ◌∷◌, length, get_or, arith, Bool, true, false, Option, Some, None, Result, Ok, Err, refl, sym, ap, ◌∙◌, subst}
 use Rattle.std.specs.Prelude.{slice_get}
 use Rattle.nb_eval.specs.declared.given.Segment.{Segment}
 use Rattle.nb_eval.specs.declared.stop.Stop.{Stop}
@@ -29,3 +29,12 @@ settles d r s p q k does same ends other =
     let is = same other in
     does (λ e. other (is ∙ e)) ∙ ap (λ (t : Result (Unit {0}) Stop). let z : Result Spot Stop × Held = (moved t q, k) in z) (sym is)
     ∙ ap (λ (x : Held). let z : Result Spot Stop × Held = (moved s q, x) in z) (sym (left_none s p k ends))
+
+pub at_place : {A : Type 0} (xs : List A) (at : ℕ) (x : A) → at < length xs → ((d : A) → x ≡ get_or xs at d) → slice_get xs at ≡ Some x
+at_place [] at x lt e = absurd (omega (arith, lt))
+at_place (y ∷ xs) zero x lt e = ap Some (sym (e y))
+at_place (y ∷ xs) (suc at) x lt e = at_place xs at x (omega (arith, lt)) e
+
+-- there is no such stop
+pub no_stay : (s : Result (Unit {0}) Stop) (x : Stop) → ((x : Stop) → s ≡ Err x → goes_on x ≡ false) → s ≡ Err x → goes_on x ≡ true → ⊥
+no_stay s x ends is on = let off = ends x is in cc

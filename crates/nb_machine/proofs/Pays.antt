@@ -22,7 +22,6 @@ use Rattle.nb_machine.specs.declared.instr.Slot.{Slot}
 use Rattle.nb_machine.specs.declared.instr.Slot.TheVariants as slot
 use Rattle.nb_machine.specs.Machine.{Spot, Goes, value_on, values_on, fields_on, turns_on, mark_on, to, gives, acts, owed, turns_left, take_turn, text_of, does, does_if}
 use Rattle.nb_machine.specs.Suspended.{owes, is_pending}
-
 use Rattle.nb_eval.proofs.Closed.{Closed}
 use Rattle.nb_eval.proofs.Spending.{WentTo, Pays, Weak, Strong, closed, pays_same}
 
@@ -160,7 +159,6 @@ module _ (g : Segment) where
   does_pays i.Return p s = on_value p.slots _ s (λ v ss. tt)
   does_pays i.Throw p s = on_value p.slots _ s (λ v ss. acted p ss (lift (thrown v)) s (of_lift (Unit {0}) (thrown v) s))
   does_pays i.Cleanup p s = on_value p.slots _ s (λ v ss. acted p ss (cleaned v) s (c.of_clean refl v s))
-
 
   pub step_pays : (o : Option Instr) (p : Spot) (s : State) → Paid Spot s (does_if g o p s)
   step_pays None p s = tt

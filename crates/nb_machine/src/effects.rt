@@ -88,12 +88,7 @@ pub fn throw(alloc: Global, given: &Segment, spot: &mut Spot, held: &Held) -> Re
 
 /// Moves the value on top to those that are to clean up.
 #[tactic(auto, using(crate::proofs::EffectArms::at_cleanup))]
-pub fn cleanup(
-    alloc: Global,
-    given: &Segment,
-    spot: &mut Spot,
-    held: &mut Held,
-) -> Result<(), Stop>
+pub fn cleanup(alloc: Global, given: &Segment, spot: &mut Spot, held: &mut Held) -> Result<(), Stop>
     requires held { IsHeld held.old }
     requires place { spot.old.pc + 1 < 2 ^ 64 }
     ensures { result ≢ Err Stop.Memory → held_does given.now Instr.Cleanup spot.old held.old ≡ (moved result spot.new, held.new) }

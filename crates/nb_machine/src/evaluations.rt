@@ -72,11 +72,7 @@ impl Evaluations {
 }
 
 // The machine that goes on from here over this segment, if it leads to it.
-fn taken_up(
-    alloc: Global,
-    parked: Parked,
-    segment: &Segment,
-) -> Result<Option<Machine>, AllocError>
+fn taken_up(alloc: Global, parked: Parked, segment: &Segment) -> Result<Option<Machine>, AllocError>
     ensures { (m : Machine) → result ≡ Ok (Some m) → m.standing.segment ≡ segment.now }
 {
     let Some(machine) = gone_on(alloc, parked, segment)? else {
@@ -90,7 +86,11 @@ fn taken_up(
 }
 
 // The machine that goes on from here, with the last answer of a segment or with a pull.
-fn gone_on(alloc: Global, parked: Parked, segment: &Segment) -> Result<Option<Machine>, AllocError> {
+fn gone_on(
+    alloc: Global,
+    parked: Parked,
+    segment: &Segment,
+) -> Result<Option<Machine>, AllocError> {
     if parked.needs_answer() {
         return match segment.answers.as_slice().last() {
             Some(answer) => answered(parked.resume(alloc, answer.copy(alloc)?)),

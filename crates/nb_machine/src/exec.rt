@@ -9,8 +9,8 @@ use crate::instr::Instr;
 use crate::operators::{compare, field, part, product, sum, unary};
 use crate::point::{Held, Spot};
 use crate::statements::{
-    assign, back, begin_turns, enter, go, leave, let_local, next_turn, return_value, take_turn, tick,
-    unless, when,
+    assign, back, begin_turns, enter, go, leave, let_local, next_turn, return_value, take_turn,
+    tick, unless, when,
 };
 use crate::values::{
     append, call, charge, constant, list, name, no_fields, no_values, put_field, record,

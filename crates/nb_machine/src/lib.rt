@@ -16,16 +16,16 @@ mod parked;
 mod pile;
 mod point;
 mod stack;
-mod statements;
 mod standing;
+mod statements;
 mod step;
 mod turn;
 mod turns;
 mod values;
 
-pub use instr::{Instr, Slot, Word};
 pub use ended::Ended;
 pub use evaluations::Evaluations;
+pub use instr::{Instr, Slot, Word};
 pub use machine::Machine;
 pub use parked::Parked;
 pub use pile::Pile;

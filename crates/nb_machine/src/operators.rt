@@ -34,12 +34,7 @@ pub fn field(
 
 /// The part of the value below the top at the index on top.
 #[tactic(auto, using(crate::proofs::Arms::at_at))]
-pub fn part(
-    alloc: Global,
-    given: &Segment,
-    spot: &mut Spot,
-    held: &Held,
-) -> Result<(), Stop>
+pub fn part(alloc: Global, given: &Segment, spot: &mut Spot, held: &Held) -> Result<(), Stop>
     requires held { IsHeld held.now }
     requires place { spot.old.pc + 1 < 2 ^ 64 }
     ensures { result ≢ Err Stop.Memory → held_does given.now (Instr.At) spot.old held.now ≡ (moved result spot.new, held.now) }

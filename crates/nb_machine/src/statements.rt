@@ -156,12 +156,7 @@ pub fn leave(given: &Segment, spot: &mut Spot, held: &mut Held) -> Result<(), St
 
 /// The items of the list on top as the turns of a `for`.
 #[tactic(auto, using(crate::proofs::StatementArms::at_turns))]
-pub fn begin_turns(
-    alloc: Global,
-    given: &Segment,
-    spot: &mut Spot,
-    held: &Held,
-) -> Result<(), Stop>
+pub fn begin_turns(alloc: Global, given: &Segment, spot: &mut Spot, held: &Held) -> Result<(), Stop>
     requires held { IsHeld held.now }
     requires place { spot.old.pc + 1 < 2 ^ 64 }
     ensures { result ≢ Err Stop.Memory → held_does given.now Instr.Turns spot.old held.now ≡ (moved result spot.new, held.now) }

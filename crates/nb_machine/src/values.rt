@@ -53,12 +53,7 @@ pub fn name(
 
 /// No values yet, of a list or of a call.
 #[tactic(auto, using(crate::proofs::Arms::at_values))]
-pub fn no_values(
-    alloc: Global,
-    given: &Segment,
-    spot: &mut Spot,
-    held: &Held,
-) -> Result<(), Stop>
+pub fn no_values(alloc: Global, given: &Segment, spot: &mut Spot, held: &Held) -> Result<(), Stop>
     requires held { IsHeld held.now }
     requires place { spot.old.pc + 1 < 2 ^ 64 }
     ensures { result ≢ Err Stop.Memory → held_does given.now (Instr.Values) spot.old held.now ≡ (moved result spot.new, held.now) }
@@ -68,11 +63,7 @@ pub fn no_values(
 
 /// Moves the value on top to the values below it.
 #[tactic(auto, using(crate::proofs::Arms::at_append))]
-pub fn append(
-    given: &Segment,
-    spot: &mut Spot,
-    held: &Held,
-) -> Result<(), Stop>
+pub fn append(given: &Segment, spot: &mut Spot, held: &Held) -> Result<(), Stop>
     requires held { IsHeld held.now }
     requires place { spot.old.pc + 1 < 2 ^ 64 }
     ensures { result ≢ Err Stop.Memory → held_does given.now (Instr.Append) spot.old held.now ≡ (moved result spot.new, held.now) }
@@ -85,12 +76,7 @@ pub fn append(
 
 /// The list of the values on top.
 #[tactic(auto, using(crate::proofs::Arms::at_list))]
-pub fn list(
-    alloc: Global,
-    given: &Segment,
-    spot: &mut Spot,
-    held: &Held,
-) -> Result<(), Stop>
+pub fn list(alloc: Global, given: &Segment, spot: &mut Spot, held: &Held) -> Result<(), Stop>
     requires held { IsHeld held.now }
     requires place { spot.old.pc + 1 < 2 ^ 64 }
     ensures { result ≢ Err Stop.Memory → held_does given.now (Instr.List) spot.old held.now ≡ (moved result spot.new, held.now) }
@@ -102,12 +88,7 @@ pub fn list(
 
 /// No fields yet, of a record.
 #[tactic(auto, using(crate::proofs::Arms::at_fields))]
-pub fn no_fields(
-    alloc: Global,
-    given: &Segment,
-    spot: &mut Spot,
-    held: &Held,
-) -> Result<(), Stop>
+pub fn no_fields(alloc: Global, given: &Segment, spot: &mut Spot, held: &Held) -> Result<(), Stop>
     requires held { IsHeld held.now }
     requires place { spot.old.pc + 1 < 2 ^ 64 }
     ensures { result ≢ Err Stop.Memory → held_does given.now (Instr.Fields) spot.old held.now ≡ (moved result spot.new, held.now) }
@@ -136,12 +117,7 @@ pub fn put_field(
 
 /// The record of the fields on top.
 #[tactic(auto, using(crate::proofs::Arms::at_record))]
-pub fn record(
-    alloc: Global,
-    given: &Segment,
-    spot: &mut Spot,
-    held: &Held,
-) -> Result<(), Stop>
+pub fn record(alloc: Global, given: &Segment, spot: &mut Spot, held: &Held) -> Result<(), Stop>
     requires held { IsHeld held.now }
     requires place { spot.old.pc + 1 < 2 ^ 64 }
     ensures { result ≢ Err Stop.Memory → held_does given.now (Instr.Record) spot.old held.now ≡ (moved result spot.new, held.now) }
@@ -153,12 +129,7 @@ pub fn record(
 
 /// The charge of what is on top. It takes no memory but for an error, and time linear in the value.
 #[tactic(auto, using(crate::proofs::Arms::at_charge, crate::proofs::Arms::at_unpaid))]
-pub fn charge(
-    alloc: Global,
-    given: &Segment,
-    spot: &mut Spot,
-    held: &mut Held,
-) -> Result<(), Stop>
+pub fn charge(alloc: Global, given: &Segment, spot: &mut Spot, held: &mut Held) -> Result<(), Stop>
     requires held { IsHeld held.old }
     requires room { HasRoom given.now held.old.state }
     requires place { spot.old.pc + 1 < 2 ^ 64 }
