@@ -1,7 +1,8 @@
 //! A program that holds a machine of its own: it adds cells, answers what they fetch, and reads what they show.
 use crate::machine::add;
-use nb_core::{Core, Shown, settle};
+use nb_core::{Core, Shown};
 use nb_log::{Event, Target};
+use nb_settle::Settler;
 use nb_value::{Answer, Pairs, Value};
 use std::mem::drop;
 use std::test::Fail;
@@ -44,14 +45,15 @@ fn answer(core: &mut Core, ticket: u64, cents: i64) -> Result<(), Fail> {
 fn a_program_holds_a_machine(rt: HostRuntime) -> Result<(), Fail> {
     let alloc = rt.alloc();
     let mut core = Core::new(alloc, Pairs::new(alloc))?;
+    let mut settler = Settler::new(alloc);
     add(alloc, &mut core, "rate = fetch(\"rate\")")?;
     add(alloc, &mut core, "price = 12 * rate")?;
-    settle(&mut core)?;
+    settler.settle(&mut core)?;
     assert_eq!(rt; price(&core), None);
     if let Some(ticket) = asks_for_rate(&core) {
         answer(&mut core, ticket, 109)?;
     }
-    settle(&mut core)?;
+    settler.settle(&mut core)?;
     assert_eq!(rt; price(&core), Some(1308));
     assert!(rt; asks_for_rate(&core).is_none());
     Ok(())

@@ -1,8 +1,9 @@
 //! A machine with nothing in it, one that is full, work that an edit makes stale, and a loader's answer.
-use nb_core::{Core, Placed, Shown, settle};
+use nb_core::{Core, Placed, Shown};
 use nb_eval::{Work, WorkDone, evaluate};
 use nb_log::{Entry, Event, Refusal, push_entries};
 use nb_parser::parse_cell;
+use nb_settle::settle;
 use nb_sheet::Edit;
 use nb_syntax::Cell;
 use nb_value::{Answer, Bytes, Pairs, Value};
@@ -99,7 +100,7 @@ fn a_second_definition_makes_work_stale(rt: HostRuntime) -> Result<(), Fail> {
     let placed = outdated(alloc, &mut core)?;
     assert_eq!(rt; placed, Placed::Stale { held: 2, now: 4 });
     assert!(rt; matches!(core.shown(1), Shown::Waiting));
-    settle(&mut core)?;
+    settle(alloc, &mut core)?;
     assert!(rt; is_number(core.shown(1), 2));
     assert!(rt; matches!(core.shown(2), Shown::Idle));
     assert_eq!(rt; core.log().len(), 5);
@@ -133,11 +134,11 @@ fn a_loader_answers_a_fetch(rt: HostRuntime) -> Result<(), Fail> {
     assert!(rt; !core.loadable());
     assert_eq!(rt; core.ready_from(1), Some(1));
     assert_eq!(rt; core.ready_from(2), None);
-    settle(&mut core)?;
+    settle(alloc, &mut core)?;
     let place = answer_of_five(&mut core)?;
     assert_eq!(rt; place, 4);
     assert!(rt; core.live_ticket(0).is_none());
-    settle(&mut core)?;
+    settle(alloc, &mut core)?;
     assert!(rt; is_number(core.shown(1), 6));
     Ok(())
 }
@@ -156,7 +157,7 @@ fn a_full_log_refuses(rt: HostRuntime) -> Result<(), Fail> {
     let mut core = Core::new(alloc, Pairs::new(alloc))?;
     for _ in 0..243 {
         add(alloc, &mut core, "range(0, 16383)")?;
-        settle(&mut core)?;
+        settle(alloc, &mut core)?;
     }
     assert_eq!(rt; core.log().size(), 243 * (55 + 11 + 16_396));
     let place = add(alloc, &mut core, "1")?;

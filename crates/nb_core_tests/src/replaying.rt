@@ -1,8 +1,9 @@
 //! What a log leaves, worked out anew from the log alone, beside the core that made it.
 use crate::machine::{add, cell, edit};
-use nb_core::{Core, Reading, reading, settle};
+use nb_core::{Core, Reading, reading};
 use nb_log::{Event, Target};
 use nb_runs::starts::start_at;
+use nb_settle::settle;
 use nb_sheet::Edit;
 use nb_value::{Answer, Outcome, Pairs, Text, Tree, Value};
 use std::alloc::{AllocError, Global};
@@ -57,7 +58,7 @@ fn one_cell_is_read_again(rt: HostRuntime) -> Result<(), Fail> {
     let alloc = rt.alloc();
     let mut core = Core::new(alloc, Pairs::new(alloc))?;
     add(alloc, &mut core, "x = 1 + 2")?;
-    settle(&mut core)?;
+    settle(alloc, &mut core)?;
     assert_eq!(rt; core.log().len(), 3);
     let left = read(alloc, &core)?;
     assert!(rt; is_number(outcome(&left, 1), 3));
@@ -68,9 +69,9 @@ fn one_cell_is_read_again(rt: HostRuntime) -> Result<(), Fail> {
 }
 
 // Does what is ready once an event is in.
-fn done(core: &mut Core, placed: Result<u64, (Event, AllocError)>) -> Result<(), Fail> {
+fn done(alloc: Global, core: &mut Core, placed: Result<u64, (Event, AllocError)>) -> Result<(), Fail> {
     match placed {
-        Ok(_) => Ok(settle(core)?),
+        Ok(_) => Ok(settle(alloc, core)?),
         Err(back) => {
             drop(back);
             Err("memory".into())
@@ -83,12 +84,12 @@ fn answer_five(alloc: Global, core: &mut Core) -> Result<(), Fail> {
     let target = Target::Key(Text::from_str(alloc, "k")?);
     let answer = Answer::Value(Value::Int(5));
     let placed = core.event(0, Event::Settle { target, answer });
-    done(core, placed)
+    done(alloc, core, placed)
 }
 
-fn frame(core: &mut Core) -> Result<(), Fail> {
+fn frame(alloc: Global, core: &mut Core) -> Result<(), Fail> {
     let placed = core.event(0, Event::Frame);
-    done(core, placed)
+    done(alloc, core, placed)
 }
 
 // A cell with a cleanup that is defined once more, one that uses it and fetches, and a generator over two frames.
@@ -100,13 +101,13 @@ fn run(alloc: Global, core: &mut Core) -> Result<(), Fail> {
         core,
         "n = { let i = 0; while (true) { yield i; i = i + 1; } }",
     )?;
-    settle(core)?;
+    settle(alloc, core)?;
     let cell = cell(alloc, "x = 2")?;
     edit(core, Edit::Define { variable: 1, cell })?;
-    settle(core)?;
+    settle(alloc, core)?;
     answer_five(alloc, core)?;
-    frame(core)?;
-    frame(core)
+    frame(alloc, core)?;
+    frame(alloc, core)
 }
 
 // Whether the log leaves the three variables as they are in the core, and so many tickets.

@@ -2,11 +2,12 @@
 ghost use Rattle.nb_doc.specs.Loading.{HasWords};
 
 use crate::fixtures::{End, add, loaders, programs};
-use nb_core::{Core, settle};
+use nb_core::Core;
 use nb_doc::Loaders;
 use nb_io::MemSpawner;
 use nb_loader::{LoadStep, load_one};
 use nb_log::{Entry, push_entries};
+use nb_settle::settle;
 use nb_value::{Bytes, Pairs};
 use std::alloc::Global;
 use std::test::Fail;
@@ -127,7 +128,7 @@ fn follow(
     requires { HasWords loaders.now }
 {
     for _ in 0..10 {
-        settle(core)?;
+        settle(alloc, core)?;
         if load_one(alloc, core, loaders, programs)? == LoadStep::Nothing {
             return Ok(());
         }
@@ -173,7 +174,7 @@ fn nothing_runs_while_something_is_ready(rt: HostRuntime) -> Result<(), Fail> {
     let mut programs = programs(alloc, &[], &[])?;
     let mut core = Core::new(alloc, Pairs::new(alloc))?;
     add(alloc, &mut core, "rows = fetch(\"rows\")")?;
-    settle(&mut core)?;
+    settle(alloc, &mut core)?;
     add(alloc, &mut core, "1")?;
     let before = core.log().len();
     assert_eq!(rt;
@@ -181,7 +182,7 @@ fn nothing_runs_while_something_is_ready(rt: HostRuntime) -> Result<(), Fail> {
         LoadStep::Nothing
     );
     assert_eq!(rt; core.log().len(), before);
-    settle(&mut core)?;
+    settle(alloc, &mut core)?;
     let place = core.log().len() + 1;
     assert_eq!(rt;
         load_one(alloc, &mut core, &loaders, &mut programs)?,

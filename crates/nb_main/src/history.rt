@@ -9,12 +9,13 @@ ghost use Rattle.nb_loader.specs.Loads.{as_loaders};
 ghost use Rattle.nb_main.specs.Outcome.{opening_lines};
 ghost use Rattle.nb_main.specs.Run.{AwaitsLine, Goes, HasHistory};
 
-use nb_core::{Core, settle};
+use nb_core::Core;
 use nb_doc::{Document, Loaders};
 use nb_io::Spawner;
 use nb_lines::{ScriptLine, Scripts};
 use nb_loader::{LoadStep, load_one};
 use nb_log::Event;
+use nb_settle::Settler;
 use nb_value::{Items, Tree};
 use std::alloc::{AllocError, Global};
 use std::mem::drop;
@@ -34,14 +35,24 @@ pub fn history<P: Spawner>(
     ensures history { IfOk result (λ core. HasHistory document.builtins (as_loaders document.loaders) (opening_lines document.lines ++ script_lines lines.now) (P.runs programs.old) (P.runs programs.new) core.log) }
 {
     let mut core = Core::new(alloc, document.builtins)?;
+    let mut settler = Settler::new(alloc);
     take_events(
         alloc,
         &mut core,
+        &mut settler,
         &document.loaders,
         &document.lines,
         programs,
     )?;
-    take_scripts(alloc, &mut core, &document.loaders, lines, programs)?;
+    take_scripts(
+        alloc,
+        &mut core,
+        &mut settler,
+        &document.loaders,
+        lines,
+        programs,
+    )?;
+    drop(settler);
     Ok(core)
 }
 
@@ -49,6 +60,7 @@ pub fn history<P: Spawner>(
 fn take_events<P: Spawner>(
     alloc: Global,
     core: &mut Core,
+    settler: &mut Settler,
     loaders: &Loaders,
     events: &Items<Event>,
     programs: &mut P,
@@ -63,6 +75,7 @@ fn take_events<P: Spawner>(
         take_line(
             alloc,
             core,
+            settler,
             loaders,
             ScriptLine { editor: 0, event },
             programs,
@@ -75,6 +88,7 @@ fn take_events<P: Spawner>(
 fn take_scripts<P: Spawner>(
     alloc: Global,
     core: &mut Core,
+    settler: &mut Settler,
     loaders: &Loaders,
     lines: &Scripts,
     programs: &mut P,
@@ -88,7 +102,14 @@ fn take_scripts<P: Spawner>(
     for line in lines.as_slice() {
         let editor = line.editor;
         let event = line.event.copy(alloc)?;
-        take_line(alloc, core, loaders, ScriptLine { editor, event }, programs)?;
+        take_line(
+            alloc,
+            core,
+            settler,
+            loaders,
+            ScriptLine { editor, event },
+            programs,
+        )?;
     }
     Ok(())
 }
@@ -97,6 +118,7 @@ fn take_scripts<P: Spawner>(
 fn take_line<P: Spawner>(
     alloc: Global,
     core: &mut Core,
+    settler: &mut Settler,
     loaders: &Loaders,
     line: ScriptLine,
     programs: &mut P,
@@ -108,7 +130,7 @@ fn take_line<P: Spawner>(
     ensures awaits { OnOk result (AwaitsLine (as_loaders loaders.now) core.new) }
 {
     add_line(core, line)?;
-    work(alloc, core, loaders, programs)
+    work(alloc, core, settler, loaders, programs)
 }
 
 /// Does the work that is ready and runs the loaders' programs, one at a time and each once nothing is ready, until no
@@ -116,6 +138,7 @@ fn take_line<P: Spawner>(
 fn work<P: Spawner>(
     alloc: Global,
     core: &mut Core,
+    settler: &mut Settler,
     loaders: &Loaders,
     programs: &mut P,
 ) -> Result<(), AllocError>
@@ -123,10 +146,10 @@ fn work<P: Spawner>(
     ensures goes { OnOk result (Goes (as_loaders loaders.now) [] core.old core.new (P.runs programs.old) (P.runs programs.new)) }
     ensures awaits { OnOk result (AwaitsLine (as_loaders loaders.now) core.new) }
 {
-    settle(core)?;
+    settler.settle(core)?;
     loop {
         match load_one(alloc, core, loaders, programs)? {
-            LoadStep::Placed(_) => settle(core)?,
+            LoadStep::Placed(_) => settler.settle(core)?,
             LoadStep::Nothing => return Ok(()),
         }
     }

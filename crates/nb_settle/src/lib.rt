@@ -3,4 +3,4 @@
 
 mod settler;
 
-pub use settler::Settler;
+pub use settler::{Settler, settle};

@@ -90,3 +90,14 @@ impl Settler {
         }
     }
 }
+
+/// Does the work of what is ready, as a new `Settler` does it, which keeps nothing for the next call.
+pub fn settle(alloc: Global, core: &mut Core) -> Result<(), AllocError>
+    ensures ok { OnOk result (Settles core.old core.new) }
+    ensures closed { OnOk result (IsClosedHistory core.new) }
+    ensures rest { OnOk result (RestsOnScratch core.new) }
+    ensures err { OnErr result (SettlesSoFar core.old core.new) }
+{
+    let mut settler = Settler::new(alloc);
+    settler.settle(core)
+}
