@@ -69,7 +69,11 @@ fn one_cell_is_read_again(rt: HostRuntime) -> Result<(), Fail> {
 }
 
 // Does what is ready once an event is in.
-fn done(alloc: Global, core: &mut Core, placed: Result<u64, (Event, AllocError)>) -> Result<(), Fail> {
+fn done(
+    alloc: Global,
+    core: &mut Core,
+    placed: Result<u64, (Event, AllocError)>,
+) -> Result<(), Fail> {
     match placed {
         Ok(_) => Ok(settle(alloc, core)?),
         Err(back) => {

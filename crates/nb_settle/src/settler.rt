@@ -6,9 +6,10 @@ ghost use Rattle.nb_history.specs.Work.{to_do};
 ghost use Rattle.nb_core.specs.Core.{Gains, SettlesSoFar, Settles, RestsOnScratch};
 
 use nb_core::Core;
-use nb_eval::{Work, WorkDone};
+use nb_eval::{Finished, Segment, Work, WorkDone, evaluate};
 use nb_log::{Entry, Log};
 use nb_machine::Evaluations;
+use nb_syntax::is_plain;
 use std::alloc::{AllocError, Global};
 use std::mem::drop;
 
@@ -16,6 +17,7 @@ use std::mem::drop;
 /// saves time alone: what it shows is what evaluating from the start gives.
 #[derive(Drop)]
 pub struct Settler {
+    alloc: Global,
     evaluations: Evaluations,
     // The number of the log's entries that were looked at.
     seen: u64,
@@ -25,6 +27,7 @@ impl Settler {
     /// Nothing is kept yet. It takes no memory.
     pub fn new(alloc: Global) -> Settler {
         Settler {
+            alloc,
             evaluations: Evaluations::new(alloc),
             seen: 0,
         }
@@ -73,8 +76,24 @@ impl Settler {
     {
         match work {
             Work::Direct(outcome) => Ok(WorkDone::Direct(outcome)),
-            Work::Run(segment) => Ok(WorkDone::Ran(self.evaluations.evaluate(var, segment)?)),
+            Work::Run(segment) => Ok(WorkDone::Ran(self.evaluate(var, segment)?)),
         }
+    }
+
+    // The evaluation of a variable's segment. A plain cell's is made at once, since it never stops before its end.
+    fn evaluate(&mut self, var: u32, segment: Segment) -> Result<Finished, AllocError>
+        ensures { IfOk result (λ f. f.segment ≡ segment) }
+    {
+        if is_plain(&segment.cell) {
+            return match evaluate(self.alloc, segment) {
+                Ok(finished) => Ok(finished),
+                Err((segment, refused)) => {
+                    drop(segment);
+                    Err(refused)
+                }
+            };
+        }
+        self.evaluations.evaluate(var, segment)
     }
 
     // Forgets the evaluations of the starts that came to an end since it looked at the log.
