@@ -5,9 +5,9 @@ use Rattle.nb_main.proofs.RunLemmas.{IsWorking}
 use Rattle.nb_main.proofs.history.work.Given as goal
 
 -- what was done so far, and nothing is ready
-abbrev pub invariant-loop-core : goal.invariant-loop-core
-invariant-loop-core g l = IsWorking (as_loaders l.loaders) l.fn.core l.core (g.P.Spawner.runs l.fn.programs) (g.P.Spawner.runs l.programs)
+abbrev pub invariant-loop-settler : goal.invariant-loop-settler
+invariant-loop-settler g l = IsWorking (as_loaders l.loaders) l.fn.core l.core (g.P.Spawner.runs l.fn.programs) (g.P.Spawner.runs l.programs)
 
 -- what is still to be done between two lines
-abbrev pub decreases-loop-core : goal.decreases-loop-core
-decreases-loop-core g l = to_do (standing l.core)
+abbrev pub decreases-loop-settler : goal.decreases-loop-settler
+decreases-loop-settler g l = to_do (standing l.core)
