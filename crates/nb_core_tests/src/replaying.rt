@@ -132,7 +132,7 @@ fn a_run_is_read_again(rt: HostRuntime) -> Result<(), Fail> {
     assert!(rt; shows_now(&core, 2, 7) && shows_now(&core, 3, 2));
     assert!(rt; is_read(alloc, &core, 2, false)?);
     let placed = core.event(0, Event::Dispose);
-    done(&mut core, placed)?;
+    done(alloc, &mut core, placed)?;
     assert!(rt; is_read(alloc, &core, 2, true)?);
     Ok(())
 }
