@@ -7,7 +7,6 @@ mod compile_stmt;
 mod draft;
 mod effects;
 mod ended;
-mod evaluations;
 mod exec;
 mod instr;
 mod machine;
@@ -24,7 +23,6 @@ mod turns;
 mod values;
 
 pub use ended::Ended;
-pub use evaluations::Evaluations;
 pub use instr::{Instr, Slot, Word};
 pub use machine::Machine;
 pub use parked::Parked;

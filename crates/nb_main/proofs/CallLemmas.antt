@@ -10,7 +10,7 @@ use Rattle.nb_io.specs.Runs.{Grows}
 use Rattle.nb_io.specs.Streams.{ReadsAll}
 use Rattle.nb_doc.specs.declared.document.Document.{Document}
 use Rattle.nb_main.specs.declared.task.Task.{Task}
-use Rattle.nb_main.specs.declared.task.Task.TheVariants.{Run, Upgrade}
+use Rattle.nb_main.specs.declared.task.Task.TheVariants.{Run, Make, Upgrade}
 use Rattle.nb_main.specs.declared.status.Status.{Status}
 use Rattle.nb_main.specs.declared.status.Status.TheVariants.{Ok, Memory, Usage, BadInput, ReadFault, WriteFault, FileFault, TooLong, BadDocument}
 use Rattle.nb_main.specs.Task.{task}
@@ -53,20 +53,24 @@ asks_nothing (Some name) told = inl (grows_by_nothing told)
 pub unread : (does : Option Task) (old : Option (List ℕ)) (faults : ℕ) → StaysUnread does (record { old = old; new = old; faults_old = faults; faults_new = faults })
 unread None old faults = (refl, refl)
 unread (Some (Run file)) old faults = tt
+unread (Some (Make cells seed)) old faults = (refl, refl)
 unread (Some (Upgrade name)) old faults = (refl, refl)
 
 -- ---- a stop
 
 never_usage : (files : SeenFiles) (input : Seen) (does : Task) → Stops files input does Usage → ⊥
 never_usage files input (Run file) stops = stops
+never_usage files input (Make cells seed) stops = stops
 never_usage files input (Upgrade name) stops = stops
 
 never_cut : (files : SeenFiles) (input : Seen) (does : Task) → Stops files input does WriteFault → ⊥
 never_cut files input (Run file) stops = stops
+never_cut files input (Make cells seed) stops = stops
 never_cut files input (Upgrade name) stops = stops
 
 never_done : (files : SeenFiles) (input : Seen) (does : Task) → Stops files input does Ok → ⊥
 never_done files input (Run file) stops = stops
+never_done files input (Make cells seed) stops = stops
 never_done files input (Upgrade name) stops = stops
 
 -- where nothing was written, the status says why the task came to nothing

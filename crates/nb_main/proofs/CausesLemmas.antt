@@ -9,12 +9,12 @@ use Rattle.nb_io.specs.Streams.{Tells}
 use Rattle.nb_lines.specs.declared.script.BadReason.{BadReason}
 use Rattle.nb_doc.specs.declared.reason.DocReason.{DocReason}
 use Rattle.nb_main.specs.declared.task.Task.{Task}
-use Rattle.nb_main.specs.declared.task.Task.TheVariants.{Run, Upgrade}
+use Rattle.nb_main.specs.declared.task.Task.TheVariants.{Run, Make, Upgrade}
 use Rattle.nb_main.specs.declared.status.Status.{Status}
 use Rattle.nb_main.specs.declared.status.Status.TheVariants.{Ok, Memory, Usage, BadInput, ReadFault, WriteFault, FileFault, TooLong, BadDocument}
 use Rattle.nb_main.specs.Task.{task, file_of, file_in, reads_input}
 use Rattle.nb_main.specs.Outcome.{IsRefusal, IsReadable, IsDocumentRefusal}
-use Rattle.nb_main.specs.Answers.{Seen, SeenFiles, SeenRuns, Call, Answers, AcceptsFile, HasNoFile, HasNoInput, RefusesFile, RefusesInput, ComesTo, Stops, StopsRun, StopsAtFile}
+use Rattle.nb_main.specs.Answers.{Seen, SeenFiles, SeenRuns, Call, Answers, AcceptsFile, HasNoFile, HasNoInput, RefusesFile, RefusesInput, ComesTo, Stops, StopsRun, StopsMaking, StopsAtFile}
 use Rattle.nb_main.specs.Causes.{Causes, HasReadableFile}
 use Rattle.nb_main.proofs.CallLemmas.{named_accepts, document_accepts}
 use Rattle.nb_main.proofs.OutcomeLemmas.{one_refusal, not_refused, one_document_refusal, not_refused_document}
@@ -39,12 +39,14 @@ not_readable call does s (inr there) r = not_refused_document there.1 s there.4 
 
 accepts : (files : SeenFiles) (input : Seen) (programs : SeenRuns) (does : Task) (text : List ℕ) → ComesTo files input programs does text → AcceptsFile files (file_of does)
 accepts files input programs (Run file) text c = document_accepts files file c.document c.named
+accepts files input programs (Make cells seed) text c = λ name bytes named tells. absurd (none-some name named)
 accepts files input programs (Upgrade name) text c = named_accepts files name c.0.bytes c.0.reads
 
 -- ---- the input
 
 reads_readable : (files : SeenFiles) (input : Seen) (programs : SeenRuns) (does : Task) (text bytes : List ℕ) → ComesTo files input programs does text → reads_input does ≡ true → Tells input.old bytes → IsReadable bytes
 reads_readable files input programs (Run file) text bytes c reads tells = subst IsReadable (c.read bytes tells) c.readable
+reads_readable files input programs (Make cells seed) text bytes c reads tells = absurd (false≢true reads)
 reads_readable files input programs (Upgrade name) text bytes c reads tells = absurd (false≢true reads)
 
 -- ---- by how a call ended
@@ -160,6 +162,17 @@ of_run (TooLong most) call file words (inl r) no_memory = of_file (TooLong most)
 of_run (TooLong most) call file words (inr r) no_memory = of_input (TooLong most) call file words r (λ e. cc) (λ e. cc) (λ e. cc) (λ e. cc) (λ p r e. cc)
 of_run (BadDocument path reason) call file words stops no_memory = of_file (BadDocument path reason) call (Run file) words stops (λ e. cc) (λ e. cc) (λ e. cc) (λ e. cc) (λ l r e. cc)
 
+of_making : (s : Status) (call : Call) → StopsMaking s → (s ≡ Memory → ⊥) → Causes s call
+of_making Ok call stops no_memory = absurd stops
+of_making Memory call stops no_memory = absurd (no_memory refl)
+of_making Usage call stops no_memory = absurd stops
+of_making (BadInput line reason) call stops no_memory = absurd stops
+of_making ReadFault call stops no_memory = absurd stops
+of_making WriteFault call stops no_memory = absurd stops
+of_making FileFault call stops no_memory = absurd stops
+of_making (TooLong most) call stops no_memory = absurd stops
+of_making (BadDocument path reason) call stops no_memory = absurd stops
+
 of_upgrade : (s : Status) (call : Call) (name : List ℕ) → task call.words ≡ Some (Upgrade name) → StopsAtFile call.files (Some name) s → (s ≡ Memory → ⊥) → Causes s call
 of_upgrade Ok call name words stops no_memory = absurd stops
 of_upgrade Memory call name words stops no_memory = absurd (no_memory refl)
@@ -173,6 +186,7 @@ of_upgrade (BadDocument path reason) call name words stops no_memory = of_file (
 
 of_stop : (s : Status) (call : Call) (does : Task) → task call.words ≡ Some does → Stops call.files call.input does s → (s ≡ Memory → ⊥) → Causes s call
 of_stop s call (Run file) words stops no_memory = of_run s call file words stops no_memory
+of_stop s call (Make cells seed) words stops no_memory = of_making s call stops no_memory
 of_stop s call (Upgrade name) words stops no_memory = of_upgrade s call name words stops no_memory
 
 of_no_command : (call : Call) → task call.words ≡ None → Causes Usage call

@@ -10,10 +10,11 @@ use Rattle.nb_doc.specs.declared.document.Document.{Document}
 use Rattle.nb_doc.specs.Documents.{document_of}
 use Rattle.nb_doc.specs.Upgraded.{upgraded}
 use Rattle.nb_main.specs.declared.task.Task.{Task}
-use Rattle.nb_main.specs.declared.task.Task.TheVariants.{Run, Upgrade}
+use Rattle.nb_main.specs.declared.task.Task.TheVariants.{Run, Make, Upgrade}
 use Rattle.nb_main.specs.declared.status.Status.{Status}
 use Rattle.nb_main.specs.declared.status.Status.TheVariants.{Ok, Memory, Usage, BadInput, ReadFault, WriteFault, FileFault, TooLong, BadDocument}
 use Rattle.nb_main.specs.Task.{task}
+use Rattle.nb_main.specs.Made.{MakesTo}
 use Rattle.nb_main.specs.Outcome.{IsRefusal, IsReadable, IsDocumentRefusal, IsReadableDocument, no_document, IsOutcome}
 
 -- What an object told before a call and after it, and its counts of faults then.
@@ -107,6 +108,7 @@ pub record UpgradesTo (files : SeenFiles) (name text : List ℕ) : Type 0 where
 
 abbrev pub ComesTo : SeenFiles → Seen → SeenRuns → Task → List ℕ → Type 0
 ComesTo files input programs (Run file) text = RunsTo files input programs file text
+ComesTo files input programs (Make cells seed) text = MakesTo cells seed text × RunsNothing programs
 ComesTo files input programs (Upgrade name) text = UpgradesTo files name text × RunsNothing programs
 
 -- ---- why a task comes to nothing
@@ -150,9 +152,15 @@ StopsRun files input file (TooLong most) = RefusesFile files file (TooLong most)
 StopsRun files input file (BadDocument path reason) = RefusesFile files file (BadDocument path reason)
 StopsRun files input file status = ⊥
 
+-- Making a notebook comes to nothing only for want of memory.
+abbrev pub StopsMaking : Status → Type 0
+StopsMaking Memory = ⊤
+StopsMaking status = ⊥
+
 -- A task comes to nothing for one of these reasons.
 abbrev pub Stops : SeenFiles → Seen → Task → Status → Type 0
 Stops files input (Run file) status = StopsRun files input file status
+Stops files input (Make cells seed) status = StopsMaking status
 Stops files input (Upgrade name) status = StopsAtFile files (Some name) status
 
 -- where memory didn't run out, no program was run

@@ -6,13 +6,13 @@ use Rattle.nb_cli.specs.declared.command.WordsFail.{WordsFail}
 use Rattle.nb_cli.specs.declared.command.WordsFail.TheVariants.{Usage, Memory}
 use Rattle.nb_cli.specs.Command.{command}
 use Rattle.nb_main.specs.declared.task.Task.{Task}
-use Rattle.nb_main.specs.declared.task.Task.TheVariants.{Run, Upgrade}
+use Rattle.nb_main.specs.declared.task.Task.TheVariants.{Run, Make, Upgrade}
 
--- what `notebook` does of the commands; it has no workers, and makes no lines
+-- what `notebook` does of the commands; it has no workers
 abbrev pub task_by : Command → Option Task
 task_by (command.Run file) = Some (Run file)
 task_by (command.Workers n file) = None
-task_by (command.Make n seed) = None
+task_by (command.Make n seed) = Some (Make n seed)
 task_by (command.Upgrade file) = Some (Upgrade file)
 
 -- the task of the words after the program's name, or none
@@ -28,10 +28,12 @@ ReadsTask wanted (Err Memory) = Unit {0}
 -- the name of the file that a task reads, if it reads one
 abbrev pub file_of : Task → Option (List ℕ)
 file_of (Run file) = file
+file_of (Make cells seed) = None
 file_of (Upgrade file) = Some file
 
 abbrev pub reads_input : Task → Bool
 reads_input (Run file) = true
+reads_input (Make cells seed) = false
 reads_input (Upgrade file) = false
 
 -- the name of the file that the words name, if they name one

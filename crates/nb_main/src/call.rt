@@ -14,8 +14,8 @@ use nb_value::Words;
 use std::alloc::Global;
 
 /// Does all that the program does: reads the words, the file that they name and the input, runs the lines and the programs of
-/// the file's loaders, and writes the history to `out`; or writes the file's document as one of version 2; or tells on `notes`
-/// why it could not. It never waits for another thread, and returns where the objects that are handed in return.
+/// the file's loaders, and writes the history to `out`; or runs the lines of a made notebook and writes their summary; or writes
+/// the file's document as one of version 2; or tells on `notes` why it could not. It never waits for another thread, and returns where the objects that are handed in return.
 ///
 /// The document, and all lines, are read and checked before the first is done, and the whole history stands before its
 /// first byte is written. A fault of `notes`, and a loader that fails, change no status.

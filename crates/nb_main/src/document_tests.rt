@@ -133,8 +133,7 @@ const CASES: [Case<'static>; 17] = [
     Case {
         name: "lines that are made",
         words: &["make", "1", "7"],
-        status: 2,
-        notes: b"notebook: usage: notebook run [FILE] | workers N [FILE] | make N SEED | upgrade FILE\n",
+        out: b"[\"made\",1,7,6,10,1,0,0]\n[\"done\",10]\n",
         ..PLAIN
     },
     Case {

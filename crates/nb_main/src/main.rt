@@ -3,6 +3,7 @@
 
 mod call;
 mod history;
+mod making;
 mod notes;
 mod outcome;
 mod reading;

@@ -8,6 +8,7 @@ ghost use Rattle.nb_main.specs.Outcome.{GivesRun, RefusesLines};
 ghost use Rattle.nb_main.specs.Ends.{limit};
 
 use crate::history::history;
+use crate::making::made;
 use crate::reading::{document_of, upgraded_file};
 use crate::status::{LIMIT, Status};
 use crate::task::Task;
@@ -19,6 +20,7 @@ use nb_value::{Bytes, Text};
 use std::alloc::Global;
 
 /// What a task writes, or why it writes nothing.
+#[tactic(auto, using(crate::proofs::CallLemmas::asks_nothing))]
 pub fn text_of<S: Source, F: Files, P: Spawner>(
     alloc: Global,
     task: &Task,
@@ -35,6 +37,7 @@ pub fn text_of<S: Source, F: Files, P: Spawner>(
 {
     match task {
         Task::Run(file) => run(alloc, file.as_ref(), input, files, programs),
+        Task::Make(cells, seed) => made(alloc, *cells, *seed),
         Task::Upgrade(file) => upgraded_file(alloc, file, files),
     }
 }

@@ -3,6 +3,7 @@ ghost use Rattle.std.specs.Prelude.{◌≡◌, ◌≤◌, ℕ, List, Some, lengt
 ghost use Rattle.std.specs.Option.{option_copied};
 ghost use Rattle.nb_doc.specs.Loading.{HasWords};
 ghost use Rattle.nb_main.specs.Answers.{AgreesFile, AsksFor, IsDocument, StopsAtFile, UpgradesTo, seen_files};
+ghost use Rattle.nb_main.specs.Outcome.{no_document};
 ghost use Rattle.nb_main.specs.Ends.{limit};
 
 use crate::status::{LIMIT, Status};
@@ -37,11 +38,20 @@ pub fn document_of<F: Files>(
 {
     match file {
         Some(name) => named_document(alloc, name, files),
-        None => Ok(Document {
-            builtins: Pairs::new(alloc),
-            lines: Items::new(alloc),
-            loaders: Items::new(alloc),
-        }),
+        None => Ok(empty_document(alloc)),
+    }
+}
+
+/// The document with nothing in it.
+pub fn empty_document(alloc: Global) -> Document
+    ensures is { result ≡ no_document }
+    ensures few { length result.builtins ≤ 65536 }
+    ensures words { HasWords result.loaders }
+{
+    Document {
+        builtins: Pairs::new(alloc),
+        lines: Items::new(alloc),
+        loaders: Items::new(alloc),
     }
 }
 

@@ -9,6 +9,8 @@ use std::alloc::Global;
 pub enum Task {
     /// Runs the lines of the input, after those of the notebook in the file with this name, if there is one.
     Run(Option<Text>),
+    /// Runs the lines of the notebook of so many cells that is made of a seed.
+    Make(u32, u32),
     /// Writes the notebook in the file with this name as one of version 2.
     Upgrade(Text),
 }
@@ -20,7 +22,8 @@ pub fn read_task(alloc: Global, words: &Words) -> Result<Task, WordsFail>
 {
     match read_words(alloc, words)? {
         Command::Run(file) => Ok(Task::Run(file)),
+        Command::Make(cells, seed) => Ok(Task::Make(cells, seed)),
         Command::Upgrade(file) => Ok(Task::Upgrade(file)),
-        Command::Workers(_, _) | Command::Make(_, _) => Err(WordsFail::Usage),
+        Command::Workers(_, _) => Err(WordsFail::Usage),
     }
 }

@@ -1,5 +1,6 @@
 mod TableLemmas
 mod ScratchLemmas
+mod SummaryLemmas
 pub mod Digits
 pub mod UniqueJson
 pub mod ValueParts

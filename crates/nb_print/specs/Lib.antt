@@ -1,3 +1,4 @@
 pub mod Table
 pub mod Law
 pub mod Scratch
+pub mod Summary

@@ -3,12 +3,13 @@ ghost use Rattle.nb_eval.specs.Work.{IsOf};
 ghost use Rattle.nb_history.specs.History.{standing, IsClosedHistory};
 ghost use Rattle.nb_history.specs.Rules.{ready as ready_of, next};
 ghost use Rattle.nb_history.specs.Work.{to_do};
+ghost use Rattle.nb_settle.specs.Evaluations.{IsNothing};
 ghost use Rattle.nb_core.specs.Core.{Gains, SettlesSoFar, Settles, RestsOnScratch};
 
+use crate::evaluations::Evaluations;
 use nb_core::Core;
 use nb_eval::{Finished, Segment, Work, WorkDone, evaluate};
 use nb_log::{Entry, Log};
-use nb_machine::Evaluations;
 use nb_syntax::is_plain;
 use std::alloc::{AllocError, Global};
 use std::mem::drop;
@@ -25,7 +26,10 @@ pub struct Settler {
 
 impl Settler {
     /// Nothing is kept yet. It takes no memory.
-    pub fn new(alloc: Global) -> Settler {
+    pub fn new(alloc: Global) -> Settler
+        ensures kept { IsNothing result.evaluations }
+        ensures seen { result.seen ≡ 0 }
+    {
         Settler {
             alloc,
             evaluations: Evaluations::new(alloc),

@@ -1,6 +1,6 @@
 use Rattle.std.proofs.Common.{◌≡◌, ◌-◌}
 use Rattle.nb_eval.specs.Evaluation.{charges}
-use Rattle.nb_machine.proofs.evaluations.run_to_end.Given as goal
+use Rattle.nb_machine_tests.proofs.stepping.stepped.Given as goal
 
 abbrev pub invariant-loop-machine : goal.invariant-loop-machine
 invariant-loop-machine l = l.machine.standing.segment ≡ l.fn.machine.standing.segment

@@ -1,13 +1,14 @@
 //! Evaluations that are taken up where they were left.
 
-ghost use Rattle.std.specs.Prelude.{◌≡◌, Some, Ok, IfOk};
+ghost use Rattle.std.specs.Prelude.{◌≡◌, ◌≢◌, ℕ, Some, None, Ok, IfOk, OnOk, OnErr};
+ghost use Rattle.std.specs.Ordering.{nat_cmp};
+ghost use Rattle.std.specs.BTreeMap.{get_by};
 ghost use Rattle.nb_machine.specs.Parked.{IsLeftOf};
+ghost use Rattle.nb_settle.specs.Evaluations.{kept, unless_over, IsNothing, KeepsOthers, IsWithout, IsWithRest};
 
-use crate::machine::Machine;
-use crate::parked::Parked;
-use crate::step::begin;
 use nb_eval::{Finished, Segment};
-use nb_value::Tree;
+use nb_machine::{Machine, Parked, begin};
+use nb_value::{Answer, Tree};
 use std::alloc::{AllocError, Global};
 use std::collections::BTreeMap;
 use std::mem::drop;
@@ -21,7 +22,9 @@ pub struct Evaluations {
 
 impl Evaluations {
     /// No evaluations. It takes no memory yet.
-    pub fn new(alloc: Global) -> Evaluations {
+    pub fn new(alloc: Global) -> Evaluations
+        ensures { IsNothing result }
+    {
         Evaluations {
             alloc,
             parked: BTreeMap::new(alloc),
@@ -30,30 +33,45 @@ impl Evaluations {
 
     /// The evaluation of a variable's segment. It is made from where the variable's suspended evaluation stands, where that
     /// lacks the segment's last answer alone, or a pull alone, and then costs what comes after that; else from the start. What is
-    /// left of it is kept for the variable. It fails only without memory, and then nothing is kept for the variable.
+    /// left of it is kept for the variable. It fails only without memory, and then nothing is kept for the variable. What is kept
+    /// for others stays.
     pub fn evaluate(&mut self, var: u32, segment: Segment) -> Result<Finished, AllocError>
-        ensures { IfOk result (λ f. f.segment ≡ segment) }
+        ensures segment { IfOk result (λ f. f.segment ≡ segment) }
+        ensures rest { OnOk result (IsWithRest self.old var segment self.new) }
+        ensures err { OnErr result (IsWithout self.old var self.new) }
     {
         let machine = self.machine_of(var, segment)?;
         let (finished, parked) = run_to_end(self.alloc, machine)?;
-        if parked.is_over() {
-            drop(parked);
-        } else {
-            self.parked.insert(var, parked)?;
-        }
+        self.keep(var, parked)?;
         Ok(finished)
     }
 
-    /// Forgets the suspended evaluation of a variable. It takes no memory.
-    pub fn forget(&mut self, var: u32) {
-        if let Some(parked) = self.parked.remove(&var) {
-            drop(parked);
-        }
+    /// Forgets the suspended evaluation of a variable, if one is kept. What is kept for others stays. It takes no memory.
+    pub fn forget(&mut self, var: u32)
+        ensures { IsWithout self.old var self.new }
+    {
+        drop(self.parked.remove(&var));
     }
 
-    // A machine of this segment.
+    // Keeps what is left of an evaluation for its variable, for which nothing is kept, unless it is over.
+    #[tactic(auto, using(crate::proofs::EvaluationLemmas::kept_unless_over))]
+    fn keep(&mut self, var: u32, parked: Parked) -> Result<(), AllocError>
+        requires { kept self.old var ≡ None }
+        ensures here { OnOk result (kept self.new var ≡ unless_over parked) }
+        ensures err { OnErr result (kept self.new var ≡ None) }
+        ensures others { KeepsOthers self.old var self.new }
+    {
+        if parked.is_over() {
+            drop(parked);
+            return Ok(());
+        }
+        insert(&mut self.parked, var, parked)
+    }
+
+    // A machine of this segment. What was kept for the variable is used up.
     fn machine_of(&mut self, var: u32, segment: Segment) -> Result<Machine, AllocError>
-        ensures { IfOk result (λ m. m.standing.segment ≡ segment) }
+        ensures machine { IfOk result (λ m. m.standing.segment ≡ segment) }
+        ensures used { IsWithout self.old var self.new }
     {
         if let Some(parked) = self.parked.remove(&var) {
             if let Some(machine) = taken_up(self.alloc, parked, &segment)? {
@@ -69,6 +87,17 @@ impl Evaluations {
             }
         }
     }
+}
+
+// Puts a value in for a variable that has none.
+fn insert<T: Drop>(values: &mut BTreeMap<u32, T>, var: u32, value: T) -> Result<(), AllocError>
+    requires { get_by (nat_cmp var) values.old ≡ None }
+    ensures here { OnOk result (get_by (nat_cmp var) values.new ≡ Some value) }
+    ensures err { OnErr result (get_by (nat_cmp var) values.new ≡ None) }
+    ensures others { (other : ℕ) → other ≢ var → get_by (nat_cmp other) values.new ≡ get_by (nat_cmp other) values.old }
+{
+    drop(values.insert(var, value)?);
+    Ok(())
 }
 
 // The machine that goes on from here over this segment, if it leads to it.
@@ -108,7 +137,7 @@ fn gone_on(
 }
 
 fn answered(
-    resumed: Result<Machine, (Parked, nb_value::Answer, AllocError)>,
+    resumed: Result<Machine, (Parked, Answer, AllocError)>,
 ) -> Result<Option<Machine>, AllocError> {
     match resumed {
         Ok(machine) => Ok(Some(machine)),
