@@ -129,12 +129,27 @@ fn steps_are_counted(rt: HostRuntime) -> Result<(), Fail> {
     Ok(())
 }
 
+// The machine of a cell after its first charge.
+fn stepped_once(alloc: Global, text: &str) -> Result<Machine, Fail> {
+    let mut machine = begun(alloc, text)?;
+    machine.step(alloc, 1)?;
+    Ok(machine)
+}
+
+#[test]
+fn a_machine_tells_its_segment(rt: HostRuntime) -> Result<(), Fail> {
+    let alloc = rt.alloc();
+    let machine = stepped_once(alloc, "1 + 2")?;
+    let expected = segment(alloc, "1 + 2")?;
+    assert!(rt; machine.segment().same(&expected));
+    Ok(())
+}
+
 #[test]
 fn a_machine_gives_its_segment_back(rt: HostRuntime) -> Result<(), Fail> {
     let alloc = rt.alloc();
-    let mut machine = begun(alloc, "1 + 2")?;
-    assert!(rt; machine.step(alloc, 1)?.is_none());
-    assert!(rt; machine.segment().same(&segment(alloc, "1 + 2")?));
-    assert!(rt; machine.into_segment().same(&segment(alloc, "1 + 2")?));
+    let back = stepped_once(alloc, "1 + 2")?.into_segment();
+    let expected = segment(alloc, "1 + 2")?;
+    assert!(rt; back.same(&expected));
     Ok(())
 }
