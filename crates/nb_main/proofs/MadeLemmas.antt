@@ -4,7 +4,7 @@ use Rattle.std.proofs.lemmas.Option.{none-some}
 use Rattle.nb_value.specs.declared.value.Value.{Value}
 use Rattle.nb_value.specs.declared.pairs.Field.{Field}
 use Rattle.nb_io.specs.declared.spawner.ChildRun.{ChildRun}
-use Rattle.nb_sheet.specs.Lists.{nth, option_then}
+use Rattle.nb_sheet.specs.Lists.{Name, nth, option_then}
 use Rattle.nb_log.specs.declared.entry.Entry.{Entry}
 use Rattle.nb_log.specs.declared.entry.Entry.TheVariants as entry
 use Rattle.nb_lines.specs.declared.script.ScriptLine.{ScriptLine}
@@ -24,7 +24,7 @@ use Rattle.nb_main.specs.Run.{HasHistory}
 use Rattle.nb_main.specs.Made.{MakesTo, making}
 
 -- without loaders no ticket has a program
-no_argv : (ticket : Option Ticket) → option_then ticket (λ (k : Ticket). None) ≡ None
+no_argv : (ticket : Option Ticket) → ◌≡◌ {A = Option (List Name)} (option_then ticket (λ (k : Ticket). None)) None
 no_argv None = refl
 no_argv (Some k) = refl
 
@@ -49,7 +49,7 @@ no_runs r (entry.Ended v ∷ es) runs told = no_runs (after r (entry.Ended v)) e
 no_runs r (entry.Left v d ∷ es) runs told = no_runs (after r (entry.Left v d)) es runs told
 
 -- what stands in the machine, where it has no builtins
-made_of : (builtins : List (Field Value)) → Making → List Entry → List ℕ
+abbrev made_of : (builtins : List (Field Value)) → Making → List Entry → List ℕ
 made_of builtins m log = summary_text m (record { builtins = builtins; log = log })
 
 over_nothing : (lines : List ScriptLine) (old new : Option (List ChildRun)) (log : List Entry) → HasHistory [] [] (script_lines lines) old new log → IsHistoryOf [] [] (script_lines lines) [] log
