@@ -20,7 +20,7 @@ pub struct Row {
 }
 
 impl Row {
-    ghost use Rattle.std.specs.Prelude.{◌≡◌, ◌==◌, ◌&&◌, ◌||◌, not, true, false, [], OnOk, OnErr};
+    ghost use Rattle.std.specs.Prelude.{◌≡◌, ◌==◌, ◌&&◌, not, true, false, [], ◌∷◌, OnOk, OnErr};
     ghost use Rattle.nb_index.specs.Numbers.{has};
     ghost use Rattle.nb_index.specs.Rows.{present as present_in, marked as marked_in};
 
@@ -69,7 +69,7 @@ impl Row {
     /// Puts a number among the others. It fails only without memory, and then nothing has changed.
     pub fn insert(&mut self, number: u32) -> Result<(), AllocError>
         requires { self.old.touched ≡ true }
-        ensures ok { OnOk result ((x : ℕ) → has (present_in self.new) x ≡ (x == number || has (present_in self.old) x)) }
+        ensures ok { OnOk result ((x : ℕ) → has (present_in self.new) x ≡ has (number ∷ present_in self.old) x) }
         ensures err { OnErr result (present_in self.new ≡ present_in self.old) }
         ensures marked { marked_in self.new ≡ marked_in self.old }
         ensures touched { self.new.touched ≡ true }
@@ -84,7 +84,7 @@ impl Row {
     /// Takes a number away, if it is there. It takes no memory.
     pub fn remove(&mut self, number: u32)
         requires { self.old.touched ≡ true }
-        ensures present { (x : ℕ) → has (present_in self.new) x ≡ (not (x == number) && has (present_in self.old) x) }
+        ensures present { (x : ℕ) → has (present_in self.new) x ≡ (not (number == x) && has (present_in self.old) x) }
         ensures marked { marked_in self.new ≡ marked_in self.old }
         ensures touched { self.new.touched ≡ true }
     {
