@@ -1,3 +1,4 @@
 pub mod Ascending
 pub mod ReadRows
 pub mod Touched
+pub mod NumberedKeys

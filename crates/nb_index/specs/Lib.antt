@@ -1,3 +1,5 @@
 pub mod Numbers
 pub mod Rows
 pub mod Table
+pub mod Keys
+pub mod Index
