@@ -2,3 +2,4 @@ pub mod Ascending
 pub mod ReadRows
 pub mod Touched
 pub mod NumberedKeys
+pub mod Placed

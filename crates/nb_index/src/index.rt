@@ -49,7 +49,7 @@ impl Index {
 
     /// The row of a module and a name.
     fn place(&self, module: u32, name: &str) -> usize
-        ensures { result ≡ place_of self.now module name.now }
+        ensures { result ≡ place_of self.now «module» name.now }
     {
         place_number(&self.places, (module, name_number(&self.names, name)))
     }
@@ -57,8 +57,8 @@ impl Index {
     /// Puts a triple that isn't there. It takes constant time and that for the holders of the name. It fails only without
     /// memory, and then nothing has changed.
     pub fn put(&mut self, module: u32, name: &str, var: u32) -> Result<(), AllocError>
-        requires { (contents self.old).triples module name.now var ≡ false }
-        ensures ok { OnOk result (Gains module name.now var (contents self.old) (contents self.new)) }
+        requires { (contents self.old).triples «module» name.now var ≡ false }
+        ensures ok { OnOk result (Gains «module» name.now var (contents self.old) (contents self.new)) }
         ensures err { OnErr result (Same (contents self.old) (contents self.new)) }
         ensures marked { Same (marked self.old) (marked self.new) }
     {
@@ -69,7 +69,7 @@ impl Index {
 
     /// Takes a triple away, if it is there. It takes no memory, and constant time and that for the holders of the name.
     pub fn take(&mut self, module: u32, name: &str, var: u32)
-        ensures loses { Loses module name.now var (contents self.old) (contents self.new) }
+        ensures loses { Loses «module» name.now var (contents self.old) (contents self.new) }
         ensures marked { Same (marked self.old) (marked self.new) }
     {
         let place = self.place(module, name);
@@ -78,7 +78,7 @@ impl Index {
 
     /// Whether nobody, exactly one variable or more than one has a name in a module. It takes no memory and constant time.
     pub fn find(&self, module: u32, name: &str) -> Found
-        ensures { IsFound ((contents self.now).triples module name.now) result }
+        ensures { IsFound ((contents self.now).triples «module» name.now) result }
     {
         match self.holders.numbers(self.place(module, name)) {
             [] => Found::Nobody,
