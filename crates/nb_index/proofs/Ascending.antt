@@ -1,5 +1,5 @@
 -- Numbers that ascend: what is among them after one is put at its place or taken away, and that they still ascend.
-use Rattle.std.proofs.Common.{ℕ, zero, suc, ◌+◌, ◌-◌, ◌≡◌, ◌<◌, ◌≤◌, refl, sym, ◌∙◌, ap, subst, eq-eqb, eqb-true, ne_eqb, cond, Bool, true, false, ◌||◌, ◌&&◌, not, ◌⊎◌, inl, inr, List, [], ◌∷◌, ◌++◌, length, get_or, take, drop, min, drop-cons, insert, remove, arith}
+use Rattle.std.proofs.Common.{ℕ, zero, suc, ◌+◌, ◌-◌, ◌≡◌, ◌≢◌, ◌<◌, ◌≤◌, refl, sym, ◌∙◌, ap, subst, eq-eqb, eqb-true, ne_eqb, cond, Bool, true, false, ◌||◌, ◌&&◌, not, ◌⊎◌, inl, inr, List, [], ◌∷◌, ◌++◌, length, get_or, take, drop, min, drop-cons, insert, remove, arith}
 use Rattle.std.proofs.lemmas.Bool.{cases_lt, cases_eq}
 use Rattle.std.proofs.lemmas.List.{take-append-drop, get_or-take, length-take, get_or-drop, length-drop, drop_more, get_or_default}
 use Rattle.std.proofs.lemmas.List.Edits.{length-insert, get_or-insert_below, get_or-insert_at, get_or-insert_above, length-remove, get_or-remove_below, get_or-remove_above}
@@ -157,3 +157,13 @@ place_for xs ys y i e h r =
 pub inserted_if : (xs new : List ℕ) (i y : ℕ) (b : Bool) → new ≡ cond b (insert xs i y) xs → Ascends xs → IsPlace xs y i → Ascends new
 inserted_if xs new i y true e h place = subst Ascends (sym e) (Ascends-insert xs i y h place)
 inserted_if xs new i y false e h place = subst Ascends (sym e) h
+
+-- two are among them, where there are two at least
+pub two_at_least : (xs ys : List ℕ) → ys ≡ xs → Ascends ys → 2 ≤ length ys → (v : ℕ) × (w : ℕ) × (v ≢ w) × (has xs v ≡ true) × (has xs w ≡ true)
+two_at_least xs ys e h two =
+    let first : ℕ = get_or ys 0 0 in
+    let second : ℕ = get_or ys 1 0 in
+    let less : first < second = h 0 1 (omega arith) (omega arith) in
+    let has_first : has ys first ≡ true = list_any_at (λ z. z == first) ys 0 0 (omega arith) (eq-eqb first first refl) in
+    let has_second : has ys second ≡ true = list_any_at (λ z. z == second) ys 1 0 (omega arith) (eq-eqb second second refl) in
+    (first, second, λ same. omega (arith, same, less), sym (ap (λ (l : List ℕ). has l first) e) ∙ has_first, sym (ap (λ (l : List ℕ). has l second) e) ∙ has_second)

@@ -3,7 +3,7 @@
 use Rattle.std.proofs.Common.{ℕ, ◌+◌, ◌≡◌, ◌≢◌, ◌<◌, ◌≤◌, refl, sym, ◌∙◌, ap, subst, Bool, true, false, cond, not, ◌&&◌, ◌||◌, ◌⊎◌, inl, inr, List, [], ◌∷◌, length, get_or, arith, eq-eqb, eqb-true}
 use Rattle.std.proofs.lemmas.Bool.{false≢true, cases_lt, cases_eq, false_from_ne_true}
 use Rattle.std.proofs.lemmas.List.Sums.{passes_at_first}
-use Rattle.std.specs.Prelude.{◌==◌, String, string_bytes}
+use Rattle.std.specs.Prelude.{◌==◌, Result, Ok, Err, OnErr, String, string_bytes}
 use Rattle.std.specs.Global.{Global}
 use Rattle.std.proofs.lemmas.Slice.Eq.{bytes_eq-Decides}
 use Rattle.std.specs.Str.{bytes_eq}
@@ -53,7 +53,7 @@ module _ {X : Type 0} (read : Row → X) (none : X) (rows : List Row) where
             row_at-past read none rows (number_in is new q) (omega (arith, past.1)) ∙ sym (row_at-past read none rows (number_in is old q) (omega (arith, past.0)))
       ]
 
-  read_renamed : (names new : List (String Global)) (places : List (ℕ × ℕ)) → Grows is_name names new → NamedBelow (length names) places → length rows ≤ length places → (m : ℕ) (n : List ℕ) → row_at read none rows (place_in new places m n) ≡ row_at read none rows (place_in names places m n)
+  pub read_renamed : (names new : List (String Global)) (places : List (ℕ × ℕ)) → Grows is_name names new → NamedBelow (length names) places → length rows ≤ length places → (m : ℕ) (n : List ℕ) → row_at read none rows (place_in new places m n) ≡ row_at read none rows (place_in names places m n)
   read_renamed names new places grows named few m n =
       elim (grows n) [
         | inl same ↦ ap (λ (k : ℕ). row_at read none rows (number_in is_place places (m, k))) same
@@ -163,3 +163,12 @@ place_or_none rows names places m r n few named number o p e =
             | inr new ↦ absurd (omega (arith, less, number, unnamed places (length names) m (number_in is_name names n) named new))
           ]
     ]
+
+-- what holds holds after an error too
+pub on_any_err : {T E P : Type 0} (r : Result T E) → P → OnErr r P
+on_any_err (Ok x) p = tt
+on_any_err (Err e) p = p
+
+-- the row that a module and a name have
+pub same_at : (names : List (String Global)) (places : List (ℕ × ℕ)) (m k r : ℕ) (n : List ℕ) → IsNumber is_place places (m, k) r → IsNumber is_name names n k → place_in names places m n ≡ r
+same_at names places m k r n place name = ap (λ (x : ℕ). number_in is_place places (m, x)) (sym name.number) ∙ sym place.number

@@ -4,7 +4,7 @@ use Rattle.nb_index.specs.Numbers.{has}
 use Rattle.nb_index.specs.Rows.{present, marked, present_at}
 use Rattle.nb_index.specs.Keys.{is_source, number_in}
 use Rattle.nb_index.specs.Table.{row, Gains, SameRows}
-use Rattle.nb_index.proofs.Placed.{read_grown, own_source, same_source, gains_at}
+use Rattle.nb_index.proofs.Placed.{read_grown, own_source, same_source, gains_at, on_any_err}
 use Rattle.nb_index.proofs.index.Index.link.Goals as goal
 
 pub returns-clause-ok : goal.returns-clause-ok
@@ -65,4 +65,13 @@ returns-in_err-source-clause-marked c =
     }
 
 pub returns-in_err-source-clause-err : goal.returns-in_err-source-clause-err
-returns-in_err-source-clause-err c = ?
+returns-in_err-source-clause-err c =
+    let self = c.args.self.now in
+    on_any_err c.from_residual.result
+    (record {
+      triples = λ m n v. refl;
+      links =
+          λ f t.
+            ap (λ (l : List ℕ). has l t)
+            (read_grown present [] self.targets.rows.items is_source self.sources.keys c.add_source.new.sources.keys c.in_err-source.ensures.grows self.targets_few f);
+    })
