@@ -1,11 +1,10 @@
 -- Numbers that ascend: what is among them after one is put at its place or taken away, and that they still ascend.
-use Rattle.std.proofs.Common.{ℕ, zero, suc, ◌+◌, ◌-◌, ◌≡◌, ◌≢◌, ◌<◌, ◌≤◌, refl, sym, ◌∙◌, ap, subst, eq-eqb, eqb-true, ne_eqb, cond, Bool, true, false, ◌||◌, ◌&&◌, not, ◌⊎◌, inl, inr, List, [], ◌∷◌, ◌++◌, length, get_or, take, drop, min, drop-cons, insert, remove, arith}
+use Rattle.std.proofs.Common.{ℕ, suc, ◌+◌, ◌-◌, ◌≡◌, ◌≢◌, ◌<◌, ◌≤◌, refl, sym, ◌∙◌, ap, subst, eq-eqb, eqb-true, ne_eqb, cond, Bool, true, false, ◌||◌, ◌&&◌, not, inl, inr, List, ◌∷◌, length, get_or, take, drop, min, drop-cons, insert, remove, arith}
 use Rattle.std.proofs.lemmas.Bool.{cases_lt, cases_eq}
-use Rattle.std.proofs.lemmas.List.{take-append-drop, get_or-take, length-take, get_or-drop, length-drop, drop_more, get_or_default}
+use Rattle.std.proofs.lemmas.List.{take-append-drop, get_or-take, length-take, get_or-drop, length-drop, get_or_default}
 use Rattle.std.proofs.lemmas.List.Edits.{length-insert, get_or-insert_below, get_or-insert_at, get_or-insert_above, length-remove, get_or-remove_below, get_or-remove_above}
 use Rattle.std.proofs.lemmas.List.Folds.{list_any-append, list_any_none, list_any_at}
-use Rattle.std.specs.Prelude.{◌==◌, Ok, Err, Result}
-use Rattle.std.specs.List.{list_any}
+use Rattle.std.specs.Prelude.{◌==◌, Ok, Err}
 use Rattle.std.specs.List.Sorted.{IsBinarySearchResult}
 use Rattle.std.specs.Ordering.{nat_cmp}
 use Rattle.std.proofs.lemmas.List.Sorted.{searched}
@@ -113,13 +112,13 @@ has-remove xs i y x h less e =
     let size : length front ≡ min i (length xs) = length-take i xs in
     let no_front : (y == x) ≡ true → has front x ≡ false
     = λ same.
-        none_of front x (λ k under is.
-          omega (arith, eqb-true y x same, size, get_or-take i xs k 0 (omega (arith, size)), h k i (omega (arith, size)) less)) in
+    none_of front x (λ k under is.
+    omega (arith, eqb-true y x same, size, get_or-take i xs k 0 (omega (arith, size)), h k i (omega (arith, size)) less)) in
     let no_rest : (y == x) ≡ true → has rest x ≡ false
     = λ same.
-        none_of rest x (λ k under is.
-          let length_rest : length rest ≡ length xs - suc i = length-drop (suc i) xs in
-          omega (arith, eqb-true y x same, get_or-drop (suc i) xs k 0, h i (suc i + k) (omega arith) (omega (arith, length_rest)))) in
+    none_of rest x (λ k under is.
+    let length_rest : length rest ≡ length xs - suc i = length-drop (suc i) xs in
+    omega (arith, eqb-true y x same, get_or-drop (suc i) xs k 0, h i (suc i + k) (omega arith) (omega (arith, length_rest)))) in
     list_any-append (λ z. z == x) front rest
     ∙ without (has front x) (y == x) (has rest x) no_front no_rest
     ∙ ap (λ (b : Bool). not (y == x) && b) (sym whole)

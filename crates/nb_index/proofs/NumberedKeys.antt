@@ -1,10 +1,7 @@
 -- Numbers of keys: what a search for one answers, and what stays when a key is added.
-use Rattle.std.proofs.Common.{ℕ, zero, suc, ◌+◌, ◌≡◌, ◌≢◌, ◌<◌, ◌≤◌, refl, sym, ◌∙◌, ap, subst, Bool, true, false, cond, not, nat_lt, ◌⊎◌, inl, inr, List, [], ◌∷◌, ◌++◌, length, get_or, position, Option, Some, None, unwrap_or, arith, length-append}
-use Rattle.std.proofs.lemmas.Bool.{false≢true, cases_lt, ltb-true, ltb-false}
-use Rattle.std.proofs.lemmas.List.{length_push}
-use Rattle.std.proofs.lemmas.List.Sums.{passes_at_first, position_or_len_is}
-use Rattle.std.specs.List.{position_or_len, list_any}
-use Rattle.nb_index.specs.Keys.{number_in, IsNumber, Grows, NamedBelow}
+use Rattle.std.proofs.Common.{ℕ, ◌+◌, ◌≡◌, ◌<◌, ◌≤◌, refl, ◌∙◌, ap, Bool, true, false, cond, not, nat_lt, List, [], ◌∷◌, length, position, Option, Some, None, unwrap_or, arith}
+use Rattle.std.proofs.lemmas.Bool.{ltb-true, ltb-false}
+use Rattle.std.specs.List.{position_or_len}
 
 module _ {K : Type 0} (p : K → Bool) where
   small_step : (b : Bool) (m n : ℕ) → m ≤ n → cond (not b) (1 + m) 0 ≤ n + 1

@@ -1,7 +1,6 @@
 -- What is read off the rows after one is set or added.
-use Rattle.std.proofs.Common.{ℕ, zero, suc, ◌+◌, ◌≡◌, ◌≢◌, ◌<◌, ◌≤◌, refl, sym, ◌∙◌, ap, List, [], ◌∷◌, ◌++◌, length, set, get_or, Bool, true, false, ◌&&◌, arith, inl, inr}
+use Rattle.std.proofs.Common.{ℕ, zero, suc, ◌≡◌, ◌≢◌, ◌<◌, ◌≤◌, refl, sym, ◌∙◌, ap, List, [], ◌∷◌, ◌++◌, length, set, get_or, Bool, true, false, ◌&&◌, arith, inl, inr}
 use Rattle.std.proofs.lemmas.Bool.{cases_eq}
-use Rattle.std.specs.Prelude.{Option, Some, None, slice_get}
 use Rattle.nb_index.specs.Numbers.{has}
 use Rattle.nb_index.specs.Rows.{row_at}
 use Rattle.nb_index.specs.declared.row.Row.{Row}

@@ -1,5 +1,5 @@
 -- The list of the rows that are touched, and how many aren't.
-use Rattle.std.proofs.Common.{ℕ, zero, suc, ◌+◌, ◌≡◌, ◌≢◌, ◌<◌, ◌≤◌, refl, sym, ◌∙◌, ap, subst, Bool, true, false, cond, ◌||◌, ◌⊎◌, inl, inr, List, [], ◌∷◌, ◌++◌, length, set, arith, length-set, eq-eqb, eqb-true}
+use Rattle.std.proofs.Common.{ℕ, zero, suc, ◌+◌, ◌≡◌, ◌<◌, ◌≤◌, refl, sym, ◌∙◌, ap, Bool, true, false, cond, ◌||◌, ◌⊎◌, inl, inr, List, [], ◌∷◌, ◌++◌, length, set, arith, length-set, eq-eqb, eqb-true}
 use Rattle.std.proofs.lemmas.Bool.{cases_eq, false≢true, false_from_ne_true}
 use Rattle.std.proofs.lemmas.List.Folds.{list_any-append}
 use Rattle.std.proofs.lemmas.List.{length_push}
@@ -81,14 +81,14 @@ list_with rows list r new less was =
     record {
       listed =
           λ q is.
-            elim (cases_eq q r) [
-              | inl here ↦ has_end list r q here
-              | inr other ↦ has_front list r q (was.listed q (sym (row_at-set_other is_touched false rows r q new other) ∙ is))
-            ];
+          elim (cases_eq q r) [
+            | inl here ↦ has_end list r q here
+            | inr other ↦ has_front list r q (was.listed q (sym (row_at-set_other is_touched false rows r q new other) ∙ is))
+          ];
       inside =
           λ q h.
-            let size : length (set rows r new) ≡ length rows = length-set rows r new in
-            elim (has_push list r q h) [ inl front ↦ omega (arith, size, was.inside q front) | inr last ↦ omega (arith, size, last) ];
+          let size : length (set rows r new) ≡ length rows = length-set rows r new in
+          elim (has_push list r q h) [ inl front ↦ omega (arith, size, was.inside q front) | inr last ↦ omega (arith, size, last) ];
     }
 
 pub list_without : (rows : List Row) (list whole : List ℕ) (r : ℕ) (new : Row) → whole ≡ list ++ r ∷ [] → new.touched ≡ false → IsList rows whole → IsList (set rows r new) list
@@ -98,21 +98,21 @@ list_without rows list whole r new e off was =
     record {
       listed =
           λ q is.
-            elim (cases_eq q r) [
-              | inl here ↦
-                  absurd (false≢true
-                  (sym off ∙ sym (row_at-set_same is_touched false rows r new less) ∙ ap (λ (k : ℕ). touched_at (set rows r new) k) (sym here) ∙ is))
-              | inr other ↦
-                  elim (has_push list r q (ap (λ (l : List ℕ). has l q) (sym e) ∙ was.listed q (sym (row_at-set_other is_touched false rows r q new other) ∙ is))) [
-                    | inl front ↦ front
-                    | inr same ↦ absurd (other same)
-                  ]
-            ];
+          elim (cases_eq q r) [
+            | inl here ↦
+                absurd (false≢true
+                (sym off ∙ sym (row_at-set_same is_touched false rows r new less) ∙ ap (λ (k : ℕ). touched_at (set rows r new) k) (sym here) ∙ is))
+            | inr other ↦
+                elim (has_push list r q (ap (λ (l : List ℕ). has l q) (sym e) ∙ was.listed q (sym (row_at-set_other is_touched false rows r q new other) ∙ is))) [
+                  | inl front ↦ front
+                  | inr same ↦ absurd (other same)
+                ]
+          ];
       inside =
           λ q h.
-            let size : length (set rows r new) ≡ length rows = length-set rows r new in
-            let in_whole : has whole q ≡ true = ap (λ (l : List ℕ). has l q) e ∙ has_front list r q h in
-            omega (arith, size, was.inside q in_whole);
+          let size : length (set rows r new) ≡ length rows = length-set rows r new in
+          let in_whole : has whole q ≡ true = ap (λ (l : List ℕ). has l q) e ∙ has_front list r q h in
+          omega (arith, size, was.inside q in_whole);
     }
 
 pub list_kept : (rows : List Row) (list : List ℕ) (r : ℕ) (new : Row) → r < length rows → new.touched ≡ touched_at rows r → IsList rows list → IsList (set rows r new) list

@@ -1,5 +1,5 @@
 -- How the rows of a table change.
-use Rattle.std.specs.Prelude.{ℕ, ◌≡◌, ◌≢◌, Bool, ◌&&◌, not, ◌==◌, List, ◌∷◌}
+use Rattle.std.specs.Prelude.{ℕ, ◌≡◌, ◌≢◌, ◌&&◌, not, ◌==◌, List, ◌∷◌}
 use Rattle.nb_index.specs.Numbers.{has}
 use Rattle.nb_index.specs.Rows.{present_at, marked_at}
 use Rattle.nb_index.specs.declared.table.Table.{Table}

@@ -1,7 +1,7 @@
-use Rattle.std.proofs.Common.{◌≡◌, ◌∙◌, ap, List, ℕ, [], refl, sym}
+use Rattle.std.proofs.Common.{◌∙◌, ap, List, ℕ, [], refl}
 use Rattle.std.proofs.lemmas.Result.{on_ok_weaker, on_err_weaker}
 use Rattle.nb_index.specs.Numbers.{has}
-use Rattle.nb_index.specs.Rows.{present, marked, present_at}
+use Rattle.nb_index.specs.Rows.{present, marked}
 use Rattle.nb_index.specs.Table.{row, Gains, SameRows}
 use Rattle.nb_index.specs.Index.{place_in}
 use Rattle.nb_index.proofs.Placed.{read_placed, read_renamed, own_place, same_row, same_at, gains_at, on_any_err}
@@ -51,12 +51,12 @@ returns-clause-ok c =
     (λ (gains : Gains r c.args.var (row self.holders) (row c.insert.new.self)). record {
       triples =
           λ m n v.
-            gains_at r c.args.var (row self.holders) (row c.insert.new.self) gains (place_in names places m n) _
-            (λ same. same_row names places c.args.«module» m c.args.name.now n same ∙ same_at names places c.args.«module» c.in_ok-number.number r c.args.name.now c.in_ok-place.ensures.number c.in_ok-number.ensures.number)
-            (own_place names places c.args.«module» c.in_ok-number.number r c.args.name.now c.in_ok-place.ensures.number c.in_ok-number.ensures.number m n)
-            _
-            (read_placed present [] self.holders.rows.items self.names.keys c.add_name.new.names.keys self.places.keys c.add_place.new.places.keys c.in_ok-number.ensures.grows c.in_ok-place.ensures.grows self.named self.holders_few m n)
-            v;
+          gains_at r c.args.var (row self.holders) (row c.insert.new.self) gains (place_in names places m n) _
+          (λ same. same_row names places c.args.«module» m c.args.name.now n same ∙ same_at names places c.args.«module» c.in_ok-number.number r c.args.name.now c.in_ok-place.ensures.number c.in_ok-number.ensures.number)
+          (own_place names places c.args.«module» c.in_ok-number.number r c.args.name.now c.in_ok-place.ensures.number c.in_ok-number.ensures.number m n)
+          _
+          (read_placed present [] self.holders.rows.items self.names.keys c.add_name.new.names.keys self.places.keys c.add_place.new.places.keys c.in_ok-number.ensures.grows c.in_ok-place.ensures.grows self.named self.holders_few m n)
+          v;
       links = λ f t. refl;
     })
     c.insert.ensures.ok

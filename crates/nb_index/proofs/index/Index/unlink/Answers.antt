@@ -1,9 +1,6 @@
-use Rattle.std.proofs.Common.{◌≡◌, ◌∙◌, ap, List, ℕ, [], refl, sym, inl, inr, arith}
-use Rattle.std.proofs.lemmas.Bool.{cases_lt}
-use Rattle.nb_index.specs.Rows.{present}
+use Rattle.std.proofs.Common.{◌∙◌, refl, sym}
 use Rattle.nb_index.specs.Keys.{is_source, number_in}
 use Rattle.nb_index.specs.Table.{row}
-use Rattle.nb_index.proofs.ReadRows.{row_at-past}
 use Rattle.nb_index.proofs.Placed.{same_source, source_or_none, loses_at}
 use Rattle.nb_index.proofs.index.Index.unlink.Goals as goal
 
@@ -16,8 +13,8 @@ returns-clause-unlinks c =
       triples = λ m n v. refl;
       links =
           λ f t.
-            loses_at r c.args.to (row self.targets) (row c.remove.new.self) c.remove.ensures.loses (number_in is_source sources f) _
-            (λ same. same_source sources c.args.from f same ∙ sym c.source_number-source.ensures)
-            (source_or_none self.targets.rows.items sources c.args.from r f self.targets_few c.source_number-source.ensures)
-            t;
+          loses_at r c.args.to (row self.targets) (row c.remove.new.self) c.remove.ensures.loses (number_in is_source sources f) _
+          (λ same. same_source sources c.args.from f same ∙ sym c.source_number-source.ensures)
+          (source_or_none self.targets.rows.items sources c.args.from r f self.targets_few c.source_number-source.ensures)
+          t;
     }

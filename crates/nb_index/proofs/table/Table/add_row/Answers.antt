@@ -1,4 +1,4 @@
-use Rattle.std.proofs.Common.{◌∙◌, ap, List, ℕ, [], ◌+◌, ◌≤◌, length, subst, sym, arith}
+use Rattle.std.proofs.Common.{◌∙◌, ap, List, [], ◌+◌, ◌≤◌, length, subst, sym, arith}
 use Rattle.nb_index.specs.Rows.{present, marked, present_at, marked_at, untouched}
 use Rattle.nb_index.specs.declared.row.Row.{Row}
 use Rattle.nb_index.proofs.ReadRows.{row_at-push}
@@ -16,8 +16,14 @@ invariant_of-self-2 c =
       listed = l.listed;
       inside = l.inside;
       room =
-          omega (arith, c.args.self.now.rows.ok, c.reserve.new.self.ok, c.len.ensures, c.in_ok-reserve.ensures.ok,
-          subst (λ (rs : List Row). untouched rs ≤ length rows + 1) (sym c.push.ensures.items) (untouched-tried _ rows c.new.result));
+          omega (
+            arith,
+            c.args.self.now.rows.ok,
+            c.reserve.new.self.ok,
+            c.len.ensures,
+            c.in_ok-reserve.ensures.ok,
+            subst (λ (rs : List Row). untouched rs ≤ length rows + 1) (sym c.push.ensures.items) (untouched-tried _ rows c.new.result),
+          );
     }
 
 pub returns-clause-present : goal.returns-clause-present

@@ -1,7 +1,7 @@
-use Rattle.std.proofs.Common.{◌≡◌, ◌∙◌, ◌<◌, ap, List, ℕ, [], ◌∷◌, ◌+◌, Bool, true, false, length, set, subst, sym, arith, length-set}
+use Rattle.std.proofs.Common.{◌≡◌, ◌∙◌, ◌<◌, ap, List, ℕ, [], ◌∷◌, false, length, set, sym, arith}
 use Rattle.std.proofs.lemmas.Result.{on_ok_weaker, on_err_weaker}
 use Rattle.nb_index.specs.Numbers.{has}
-use Rattle.nb_index.specs.Rows.{present, marked, is_touched, present_at, marked_at, touched_at, untouched}
+use Rattle.nb_index.specs.Rows.{present, marked, is_touched, present_at, touched_at}
 use Rattle.nb_index.proofs.ReadRows.{row_at-read, row_at-set_same, row_at-set_other, row_at-set_kept}
 use Rattle.nb_index.proofs.Touched.{IsList, list_kept, untouched-kept}
 use Rattle.nb_index.proofs.table.Table.insert.Goals as goal
@@ -31,15 +31,15 @@ returns-clause-ok c =
     let less : r < length rows = omega (arith, c.in_ok-grow.ensures.ok, c.touch.ensures.len) in
     let was : present c.index_mut.result.now ≡ present_at c.args.self.now.rows.items r
     = sym (row_at-read present [] rows r c.index_mut.result.now less c.index_mut.ensures.value)
-      ∙ c.touch.ensures.present r
-      ∙ c.in_ok-grow.ensures.present r in
+    ∙ c.touch.ensures.present r
+    ∙ c.in_ok-grow.ensures.present r in
     on_ok_weaker c.insert.result
     (λ (gains : (x : ℕ) → has (present new) x ≡ has (c.args.number ∷ present c.index_mut.result.now) x). record {
       gained =
           λ x.
-            ap (λ (l : List ℕ). has l x) (row_at-set_same present [] rows r new less)
-            ∙ gains x
-            ∙ ap (λ (l : List ℕ). has (c.args.number ∷ l) x) was;
+          ap (λ (l : List ℕ). has l x) (row_at-set_same present [] rows r new less)
+          ∙ gains x
+          ∙ ap (λ (l : List ℕ). has (c.args.number ∷ l) x) was;
       others = λ q other. row_at-set_other present [] rows r q new other ∙ c.touch.ensures.present q ∙ c.in_ok-grow.ensures.present q;
     })
     c.insert.ensures.ok
@@ -52,9 +52,9 @@ returns-clause-err c =
     let less : r < length rows = omega (arith, c.in_ok-grow.ensures.ok, c.touch.ensures.len) in
     on_err_weaker c.insert.result
     (λ (same : present new ≡ present c.index_mut.result.now). λ q.
-      row_at-set_kept present [] rows r new less (same ∙ sym (row_at-read present [] rows r c.index_mut.result.now less c.index_mut.ensures.value)) q
-      ∙ c.touch.ensures.present q
-      ∙ c.in_ok-grow.ensures.present q)
+    row_at-set_kept present [] rows r new less (same ∙ sym (row_at-read present [] rows r c.index_mut.result.now less c.index_mut.ensures.value)) q
+    ∙ c.touch.ensures.present q
+    ∙ c.in_ok-grow.ensures.present q)
     c.insert.ensures.err
 
 pub returns-clause-marked : goal.returns-clause-marked

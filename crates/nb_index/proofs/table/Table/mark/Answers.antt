@@ -1,8 +1,6 @@
-use Rattle.std.proofs.Common.{◌≡◌, ◌∙◌, ◌<◌, ap, List, ℕ, [], ◌∷◌, ◌++◌, ◌+◌, refl, length, set, subst, sym, arith, length-set}
+use Rattle.std.proofs.Common.{◌≡◌, ◌∙◌, ◌<◌, ap, [], ◌∷◌, ◌++◌, length, set, sym, arith, length-set}
 use Rattle.std.proofs.lemmas.List.{length_push}
-use Rattle.nb_index.specs.Rows.{present, marked, is_touched, present_at, marked_at, touched_at, untouched}
-use Rattle.nb_index.specs.Numbers.{has}
-use Rattle.nb_index.specs.declared.row.Row.{Row}
+use Rattle.nb_index.specs.Rows.{present}
 use Rattle.nb_index.proofs.ReadRows.{row_at-read, row_at-set_kept}
 use Rattle.nb_index.proofs.Touched.{IsList, list_without, last_inside, untouched-set, none_listed}
 use Rattle.nb_index.proofs.table.Table.mark.Goals as goal
@@ -10,9 +8,12 @@ use Rattle.nb_index.proofs.table.Table.mark.Goals as goal
 pub index_mut-requires : goal.index_mut-requires
 index_mut-requires c =
     let self = c.loop-r.self in
-    omega (arith, self.rows.ok,
-    last_inside self.rows.items c.pop.new.self.items self.touched.items c.in-Some.r c.in-Some.ensures.items
-    (record { listed = self.listed; inside = self.inside }))
+    omega (
+      arith,
+      self.rows.ok,
+      last_inside self.rows.items c.pop.new.self.items self.touched.items c.in-Some.r c.in-Some.ensures.items
+          (record { listed = self.listed; inside = self.inside }),
+    )
 
 pub invariant_of-self : goal.invariant_of-self
 invariant_of-self c =
@@ -41,9 +42,9 @@ loop-r-preserved c =
     record {
       present =
           λ q.
-            row_at-set_kept present [] rows r new less
-            (c.mark.ensures.present ∙ sym (row_at-read present [] rows r c.index_mut.result.now less c.index_mut.ensures.value)) q
-            ∙ c.loop-r.invariant.present q;
+          row_at-set_kept present [] rows r new less
+          (c.mark.ensures.present ∙ sym (row_at-read present [] rows r c.index_mut.result.now less c.index_mut.ensures.value)) q
+          ∙ c.loop-r.invariant.present q;
       len = length-set rows r new ∙ c.loop-r.invariant.len;
     }
 

@@ -1,4 +1,4 @@
-use Rattle.std.proofs.Common.{◌∙◌, ap, List, ℕ, [], sym}
+use Rattle.std.proofs.Common.{◌∙◌, ap, List, [], sym}
 use Rattle.nb_index.specs.Rows.{present, present_at}
 use Rattle.nb_index.specs.declared.row.Row.{Row}
 use Rattle.nb_index.proofs.ReadRows.{row_at-get_or, row_at-past}

@@ -1,7 +1,7 @@
-use Rattle.std.proofs.Common.{◌≡◌, ◌∙◌, ◌<◌, ◌&&◌, ap, List, ℕ, [], ◌∷◌, ◌+◌, refl, Bool, true, false, not, length, set, subst, sym, arith, length-set}
+use Rattle.std.proofs.Common.{◌≡◌, ◌∙◌, ◌<◌, ◌&&◌, ap, List, ℕ, [], refl, false, not, length, set, sym, arith}
 use Rattle.std.specs.Prelude.{◌==◌}
 use Rattle.nb_index.specs.Numbers.{has}
-use Rattle.nb_index.specs.Rows.{present, marked, is_touched, present_at, marked_at, touched_at, untouched}
+use Rattle.nb_index.specs.Rows.{present, marked, is_touched, present_at, touched_at}
 use Rattle.nb_index.proofs.ReadRows.{row_at-read, row_at-past, row_at-set_same, row_at-set_other, row_at-set_kept, loses_none}
 use Rattle.nb_index.proofs.Touched.{IsList, list_kept, untouched-kept}
 use Rattle.nb_index.proofs.table.Table.remove.Goals as goal
@@ -34,9 +34,9 @@ returns-then-r-len-clause-loses c =
     record {
       lost =
           λ x.
-            ap (λ (l : List ℕ). has l x) (row_at-set_same present [] rows r new less)
-            ∙ c.remove.ensures.present x
-            ∙ ap (λ (l : List ℕ). not (c.args.number == x) && has l x) was;
+          ap (λ (l : List ℕ). has l x) (row_at-set_same present [] rows r new less)
+          ∙ c.remove.ensures.present x
+          ∙ ap (λ (l : List ℕ). not (c.args.number == x) && has l x) was;
       others = λ q other. row_at-set_other present [] rows r q new other ∙ c.touch.ensures.present q;
     }
 

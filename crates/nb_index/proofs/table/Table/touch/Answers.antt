@@ -1,6 +1,6 @@
-use Rattle.std.proofs.Common.{◌≡◌, ◌∙◌, ap, List, ℕ, [], ◌∷◌, ◌++◌, ◌+◌, Bool, true, false, not, length, set, subst, sym, arith}
+use Rattle.std.proofs.Common.{◌≡◌, ◌∙◌, ap, [], ◌∷◌, ◌++◌, false, length, set, subst, sym, arith}
 use Rattle.std.proofs.lemmas.List.{length_push}
-use Rattle.nb_index.specs.Rows.{present, marked, is_touched, present_at, marked_at, touched_at, untouched}
+use Rattle.nb_index.specs.Rows.{present, marked, is_touched, touched_at}
 use Rattle.nb_index.proofs.ReadRows.{row_at-read, row_at-set_same, row_at-set_kept}
 use Rattle.nb_index.proofs.Touched.{IsList, list_with, untouched-touch}
 use Rattle.nb_index.proofs.table.Table.touch.Goals as goal
@@ -22,13 +22,18 @@ invariant_of-self c =
     let e : c.push_reserved.new.self.items ≡ list ++ c.args.r ∷ [] = c.push_reserved.ensures.items in
     let l : IsList (set rows c.args.r new) c.push_reserved.new.self.items
     = subst (IsList (set rows c.args.r new)) (sym e)
-      (list_with rows list c.args.r new c.requires (record { listed = c.args.self.now.listed; inside = c.args.self.now.inside })) in
+    (list_with rows list c.args.r new c.requires (record { listed = c.args.self.now.listed; inside = c.args.self.now.inside })) in
     record {
       listed = l.listed;
       inside = l.inside;
       room =
-          omega (arith, ap length e ∙ length_push list c.args.r, c.push_reserved.ensures.capacity, c.args.self.now.room,
-          untouched-touch rows c.args.r new c.requires was c.touch.ensures.touched);
+          omega (
+            arith,
+            ap length e ∙ length_push list c.args.r,
+            c.push_reserved.ensures.capacity,
+            c.args.self.now.room,
+            untouched-touch rows c.args.r new c.requires was c.touch.ensures.touched,
+          );
     }
 
 pub returns-then-not-is_touched-clause-touched : goal.returns-then-not-is_touched-clause-touched
