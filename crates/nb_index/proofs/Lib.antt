@@ -1,0 +1,5 @@
+pub mod Ascending
+pub mod ReadRows
+pub mod Touched
+pub mod NumberedKeys
+pub mod Placed

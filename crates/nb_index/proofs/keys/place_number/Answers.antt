@@ -1,0 +1,7 @@
+use Rattle.nb_index.specs.Keys.{is_place}
+use Rattle.nb_index.proofs.NumberedKeys.{number_from}
+use Rattle.nb_index.proofs.keys.place_number.Goals as goal
+
+pub returns : goal.returns
+returns c =
+    number_from (is_place c.args.place) c.args.places.now.keys c.get_index_of.result c.len.result c.unwrap_or.result c.unwrap_or.ensures c.get_index_of.ensures.index c.len.ensures.len
