@@ -1,0 +1,4 @@
+pub mod Answers
+pub mod Leads
+pub mod Left
+pub mod Slices

@@ -1,0 +1,4 @@
+pub mod Answers
+pub mod Halts
+pub mod Jobs
+pub mod Left

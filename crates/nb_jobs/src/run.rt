@@ -1,0 +1,59 @@
+//! The doing of jobs.
+
+ghost use Rattle.std.specs.Prelude.{◌≡◌, ◌≤◌, IfOk, IfErr, OnOk};
+ghost use Rattle.nb_jobs.specs.Jobs.{MayBeParked, IsDone, IsBack, IsAskedOften, StopTells, made_before};
+
+use crate::done::JobDone;
+use crate::job::{Job, JobStop};
+use crate::slices::evaluate;
+use nb_eval::{Work, WorkDone};
+use nb_poll::Poll;
+use std::alloc::Global;
+use std::mem::drop;
+
+/// Does a job. An outcome that is known is its result at once. Else it makes the evaluation, from where that was parked, in
+/// slices of 4,096 charges, and asks the poll after each slice but the last; it goes on as long as the poll gives no number.
+///
+/// What is parked with the job is at its segment without the last answer, or with one pull less. What can be taken up again
+/// is parked with the result.
+///
+/// It stops where the poll gives a number, which it tells, or without memory. The job then comes back, to be done anew:
+/// where its evaluation was begun, nothing is parked any more. It takes time and memory in proportion to what is charged,
+/// and time linear in the last answer or, where nothing was parked, in the cell.
+pub fn run_job<P: Poll>(alloc: Global, job: Job, poll: &mut P) -> Result<JobDone, JobStop>
+    requires { MayBeParked job.parked job.work }
+    ensures done { IfOk result (λ done. IsDone job done) }
+    ensures quiet { OnOk result (P.given poll.new ≡ P.given poll.old) }
+    ensures asked { OnOk result (IsAskedOften job.work (made_before job.parked) (P.asked poll.old) (P.asked poll.new)) }
+    ensures back { IfErr result (λ stop. IsBack job stop) }
+    ensures told { IfErr result (λ stop. StopTells stop (P.given poll.old) (P.given poll.new) (P.last poll.new)) }
+    ensures later { P.asked poll.old ≤ P.asked poll.new }
+    ensures kept { P.kept poll.new ≡ P.kept poll.old }
+{
+    let Job {
+        var,
+        start,
+        work,
+        parked,
+    } = job;
+    match work {
+        Work::Direct(outcome) => {
+            drop(parked);
+            Ok(JobDone {
+                var,
+                start,
+                done: WorkDone::Direct(outcome),
+                parked: None,
+            })
+        }
+        Work::Run(segment) => match evaluate(alloc, segment, parked, poll) {
+            Ok((finished, parked)) => Ok(JobDone {
+                var,
+                start,
+                done: WorkDone::Ran(finished),
+                parked,
+            }),
+            Err(halt) => Err(halt.of_job(var, start)),
+        },
+    }
+}
