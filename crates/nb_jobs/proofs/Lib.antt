@@ -1,4 +1,4 @@
 pub mod Answers
+pub mod Asked
 pub mod Leads
 pub mod Left
-pub mod Slices

@@ -16,6 +16,11 @@ use Rattle.nb_jobs.specs.declared.job.JobStop.{JobStop}
 use Rattle.nb_jobs.specs.declared.job.JobStop.TheVariants as stop
 use Rattle.nb_jobs.specs.declared.done.JobDone.{JobDone}
 
+-- the outcome of the work is known
+abbrev pub IsKnown : Work → Type 0
+IsKnown (work.Direct o) = Unit {0}
+IsKnown (work.Run g) = ⊥
+
 -- ---- what may be parked
 
 -- an evaluation that needed an answer is parked at this segment without its last answer, one that paused at this segment with
@@ -81,9 +86,9 @@ RoseBy calls before now = min (before + calls) (2 ^ 64 - 1) ≤ now
 abbrev pub IsAskedBetween : ℕ → ℕ → ℕ → ℕ → Type 0
 IsAskedBetween from to before now = (slices : ℕ) → from + slices * 4096 < to → RoseBy slices before now
 
--- an evaluation asks between its slices, from the charges that were made
+-- for an outcome that is known nothing is asked; an evaluation asks between its slices, from the charges that were made
 abbrev pub IsAskedOften : Work → ℕ → ℕ → ℕ → Type 0
-IsAskedOften (work.Direct o) made before now = Unit {0}
+IsAskedOften (work.Direct o) made before now = now ≡ before
 IsAskedOften (work.Run g) made before now = IsAskedBetween made (charges g) before now
 
 -- ---- a job that comes back

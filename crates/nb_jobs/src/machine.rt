@@ -1,6 +1,6 @@
 //! The machine of a job's segment.
 
-ghost use Rattle.std.specs.Prelude.{◌≡◌, ◌×◌, true, Some, IfOk, MatchResult};
+ghost use Rattle.std.specs.Prelude.{◌≡◌, true, Some, IfOk, MatchResult};
 ghost use Rattle.nb_machine.specs.Parked.{Runs, needs_answer};
 ghost use Rattle.nb_jobs.specs.Jobs.{LeadsTo, IsAt, made_by, made_before};
 ghost use Rattle.nb_jobs.specs.Answers.{IsLastOf, IsNotEmpty};

@@ -1,7 +1,7 @@
 //! The doing of jobs.
 
-ghost use Rattle.std.specs.Prelude.{◌≡◌, ◌≤◌, IfOk, IfErr, OnOk};
-ghost use Rattle.nb_jobs.specs.Jobs.{MayBeParked, IsDone, IsBack, IsAskedOften, StopTells, made_before};
+ghost use Rattle.std.specs.Prelude.{◌≡◌, ◌≤◌, IfOk, IfErr, IsOk, OnOk};
+ghost use Rattle.nb_jobs.specs.Jobs.{MayBeParked, IsDone, IsBack, IsKnown, IsAskedOften, StopTells, made_before};
 
 use crate::done::JobDone;
 use crate::job::{Job, JobStop};
@@ -23,6 +23,7 @@ use std::mem::drop;
 pub fn run_job<P: Poll>(alloc: Global, job: Job, poll: &mut P) -> Result<JobDone, JobStop>
     requires { MayBeParked job.parked job.work }
     ensures done { IfOk result (λ done. IsDone job done) }
+    ensures known { IsKnown job.work → IsOk result }
     ensures quiet { OnOk result (P.given poll.new ≡ P.given poll.old) }
     ensures asked { OnOk result (IsAskedOften job.work (made_before job.parked) (P.asked poll.old) (P.asked poll.new)) }
     ensures back { IfErr result (λ stop. IsBack job stop) }

@@ -43,7 +43,7 @@ pub(crate) fn evaluate<P: Poll>(
 }
 
 // Steps a machine to its ending, and asks the poll after each slice before that.
-#[tactic(auto, using(crate::proofs::Slices::slice_more))]
+#[tactic(auto, using(crate::proofs::Asked::slice_more))]
 fn run_slices<P: Poll>(
     alloc: Global,
     machine: Machine,

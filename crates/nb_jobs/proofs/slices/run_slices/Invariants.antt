@@ -1,6 +1,6 @@
 use Rattle.std.proofs.Common.{◌≡◌, ◌≤◌, ◌-◌}
 use Rattle.nb_eval.specs.Evaluation.{charges}
-use Rattle.nb_jobs.proofs.Slices.{IsAskedSoFar}
+use Rattle.nb_jobs.proofs.Asked.{IsAskedSoFar}
 use Rattle.nb_jobs.proofs.slices.run_slices.Given as goal
 
 -- slices of the same segment were made, and each call was answered by no number
