@@ -1,5 +1,5 @@
 -- How often a poll was asked while charges were made.
-use Rattle.std.proofs.Common.{◌≡◌, ◌≤◌, ◌<◌, ℕ, ◌+◌, ◌-◌, ◌*◌, ◌^◌, min, arith}
+use Rattle.std.proofs.Common.{◌≡◌, ◌≤◌, ℕ, ◌+◌, ◌*◌, arith}
 use Rattle.nb_poll.specs.Polls.{Rises}
 use Rattle.nb_jobs.specs.Jobs.{RoseBy, IsAskedBetween}
 

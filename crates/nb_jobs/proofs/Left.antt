@@ -1,5 +1,5 @@
 -- What is left of an evaluation, as what is parked with its job.
-use Rattle.std.proofs.Common.{◌≡◌, Option, Some, None, true, false, refl, sym, ap, ◌∙◌, subst}
+use Rattle.std.proofs.Common.{◌≡◌, Option, Some, None, true, false, refl, sym, ap}
 use Rattle.nb_value.specs.declared.outcome.Answer.{Answer}
 use Rattle.nb_eval.specs.declared.finished.Finished.{Finished}
 use Rattle.nb_eval.specs.declared.given.Ending.{Ending}

@@ -1,4 +1,2 @@
-pub mod Answers
 pub mod Asked
-pub mod Leads
 pub mod Left

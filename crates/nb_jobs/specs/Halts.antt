@@ -1,5 +1,5 @@
 -- Evaluations that stopped before their ending.
-use Rattle.std.specs.Prelude.{◌≡◌, ◌⊎◌, ℕ, Option, Some, None}
+use Rattle.std.specs.Prelude.{◌≡◌, ◌⊎◌, ℕ, Option, None}
 use Rattle.nb_eval.specs.declared.given.Segment.{Segment}
 use Rattle.nb_eval.specs.declared.work.Work.TheVariants as work
 use Rattle.nb_machine.specs.declared.parked.Parked.{Parked}
