@@ -94,11 +94,7 @@ pub(crate) fn told(
         Ok(done) => Ok((done.var, done.start, done_told(alloc, &done.done)?)),
         Err(JobStop::Cancelled { job, newer }) => {
             let newer = *newer;
-            Ok((
-                job.var,
-                job.start,
-                format!(in alloc; "Cancelled {newer}")?,
-            ))
+            Ok((job.var, job.start, format!(in alloc; "Cancelled {newer}")?))
         }
         Err(JobStop::Memory(_)) => Err("memory".into()),
     }
