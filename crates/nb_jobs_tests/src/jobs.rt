@@ -26,9 +26,8 @@ fn gives(cell: &'static str, at: u64, answer: &'static str) -> Row {
 // An evaluation of 70,008 charges, which are 18 slices.
 const LOOP: &str = "x = { let i = 0; while (i < 10000) { i = i + 1; } return i; }";
 
-fn rows() -> [Row; 8] {
+fn rows() -> [Row; 7] {
     [
-        gives(LOOP, 0, "Done 10000"),
         gives(LOOP, 1, "Cancelled 9"),
         gives(LOOP, 17, "Cancelled 9"),
         gives(LOOP, 18, "Done 10000"),
