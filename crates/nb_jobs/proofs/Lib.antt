@@ -1,0 +1,3 @@
+pub mod Asked
+pub mod Leads
+pub mod Left
