@@ -1,9 +1,0 @@
-//! Evaluations charge by charge through the public calls of `nb_machine`. There is nothing here to run but tests.
-//!
-//! They stand apart from what they test, since a crate that holds tests is proved once more with them.
-#![tactic(auto)]
-
-#[cfg(test)]
-mod stepping;
-#[cfg(test)]
-mod suspended;
